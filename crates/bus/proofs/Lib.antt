@@ -1,0 +1,10 @@
+pub mod Adding
+pub mod Answered
+pub mod Growing
+pub mod Loads
+pub mod Nearer
+pub mod Demands
+pub mod Climb
+pub mod Windows
+pub mod Listing
+pub mod Bounding
