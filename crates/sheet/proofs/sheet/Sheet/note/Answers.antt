@@ -24,11 +24,6 @@ ghost-self c =
     let free : holds senders (sender .identifier) ≡ false = sym (c .holds .ensures) ∙ c .if-holds .left in
     let largest : c .max-self .result ≡ measured new .reach =
     c .max-self .ensures ∙ ap (λ x. max x (sender .jitter)) (old .largest) ∙ sym (note-reach senders sender) ∙ ap (λ (xs : List Sender). measured xs .reach) items in
-    let room = old .room in
-    let capacity = c .push-reserved .ensures .capacity in
-    let few = c .if-len-ge-MOST-SENDERS .left in
-    let is-len = c .len .ensures in
-    let is-length = old .senders .ok .0 in
     let long = length-push senders sender in
     let more = ap length items in
     (omega arith, (omega arith, (subst All-lawful items (note-lawful senders sender (old .lawful) lawful), (subst Apart items (note-apart senders sender (old .apart) free), (largest, tt)))))
