@@ -1,13 +1,17 @@
 -- The places of a stream grow with the instance. Assumes nothing.
 use Prim.Native.Nat.{ℕ, zero, suc, _+_, _-_, _≤_, _<_}
-use mathlib.Core.Path.{_≡_, sym, subst, _∙_}
+use mathlib.Core.Path.{_≡_, sym, ap, subst}
 use mathlib.Core.Bool.{true, false}
+use mathlib.Core.Logic.{⊎-elim}
 use native.Mathlib.Omega.{arith}
 use native.Mathlib.Nat.{add-zero}
 use lib.IntN.{ℤ, pos, negℤ, _+ℤ_, _-ℤ_}
 use lib.Signed.{_<ℤ_, _≤ℤ_, leZ}
 use Rattle.std.proofs.shelf.Signed.{ints}
-use Rattle.bus.specs.Meaning.{Meaning, Laws}
+use Rattle.std.proofs.shelf.Tests.{cases-lt}
+use Rattle.bus.specs.Sums.{only}
+use Rattle.bus.specs.Meaning.{Meaning, Laws, count}
+use Rattle.bus.proofs.Adding.{sum-front}
 
 pub above : (a b : ℤ) → b <ℤ a → leZ a b ≡ false
 above a b h = grind (arith, ints)
@@ -36,3 +40,18 @@ pub count-whole : (m : Meaning) → Laws m → (i p q w : ℕ) → i < m .stream
 count-whole m laws i p q w known inside some placed =
     let from : (pos (q - 1) -ℤ pos (m .reach)) ≤ℤ m .place i p q = far m laws i p known inside q some in
     omega (arith, ints)
+
+-- n is the count where place n, if there is one, is the last of at most w
+pub count-is : (m : Meaning) → Laws m → (i p w n : ℕ) → i < m .streams → p < m .cycle (m .node i) → (1 ≤ n → m .place i p n ≤ℤ pos w) → pos w <ℤ m .place i p (n + 1) → count m i p w ≡ n
+count-is m laws i p w n known inside last next =
+    sum-front n (w + m .reach + 1) (λ k. only (leZ (m .place i p (k + 1)) (pos w)) 1)
+    (⊎-elim (λ none. omega arith) (λ some. count-whole m laws i p n w known inside some (last some)) (cases-lt n 1))
+    (λ k l.
+    let on : m .place i p (k + 1 + (n - (k + 1))) ≡ m .place i p n = ap (m .place i p) (let e : k + 1 + (n - (k + 1)) ≡ n = omega arith in e) in
+    let grown = grows m laws i p known inside (k + 1) (n - (k + 1)) (omega arith) in
+    let below = last (omega arith) in
+    ap (λ b. only b 1) (upto (m .place i p (k + 1)) (pos w) (omega (arith, ints))))
+    (λ k l.
+    let on : m .place i p (n + 1 + (k - n)) ≡ m .place i p (k + 1) = ap (m .place i p) (let e : n + 1 + (k - n) ≡ k + 1 = omega arith in e) in
+    let grown = grows m laws i p known inside (n + 1) (k - n) (omega arith) in
+    ap (λ b. only b 1) (above (m .place i p (k + 1)) (pos w) (omega (arith, ints))))

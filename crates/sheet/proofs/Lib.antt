@@ -1,0 +1,4 @@
+pub mod Spanning
+pub mod Limited
+pub mod Noting
+pub mod Measuring
