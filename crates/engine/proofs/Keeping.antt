@@ -13,12 +13,13 @@ use Rattle.engine.specs.declared.memo.Memo.{Memo}
 use Rattle.engine.specs.Memo.{Keeps, none-kept}
 
 abbrev pub TrueOf : Meaning → ℕ → Kept → Type 0
-TrueOf m i kept = kept .sent ≡ others m i (kept .window)
+TrueOf m i kept = 0 < kept .window → kept .sent ≡ others m i (kept .window)
+
+-- nothing kept is true of any stream
+pub keeps-none : (m : Meaning) (i : ℕ) → Keeps m i (record { slots = replicate 256 none-kept })
+keeps-none m i = record { long = length-replicate 256 none-kept; true-of = λ k l. subst (TrueOf m i) (sym (getD-replicate 256 k none-kept none-kept l)) (λ some. absurd (omega arith)) }
 
 module _ (m : Meaning) (i : ℕ) (kept : Kept) (is : TrueOf m i kept) where
-  pub keeps-one : Keeps m i (record { slots = replicate 256 kept })
-  keeps-one = record { long = length-replicate 256 kept; true-of = λ k l. subst (TrueOf m i) (sym (getD-replicate 256 k kept none-kept l)) is }
-
   pub keeps-more : (memo : Memo) (slot : ℕ) → slot < 256 → Keeps m i memo → Keeps m i (record { slots = set (memo .slots) slot kept })
   keeps-more memo slot inside so =
       let room : slot < length (memo .slots) = omega (arith, so .long) in

@@ -13,7 +13,7 @@ none-kept = record { window = 0; sent = 0 }
 abbrev pub kept-at : Memo → ℕ → Kept
 kept-at memo k = getD (memo .slots) k none-kept
 
--- every slot has a window with what the other nodes send in it
+-- every slot that keeps a window has what the other nodes send in it
 pub record Keeps (m : Meaning) (i : ℕ) (memo : Memo) : Type 0 where
   pub long : length (memo .slots) ≡ 256
-  pub true-of : (k : ℕ) → k < 256 → kept-at memo k .sent ≡ others m i (kept-at memo k .window)
+  pub true-of : (k : ℕ) → k < 256 → 0 < kept-at memo k .window → kept-at memo k .sent ≡ others m i (kept-at memo k .window)

@@ -1,4 +1,4 @@
-// The bound of a stream.
+// The bound of a stream of any traffic.
 ghost use Rattle.engine.specs.Bounded.{Bound-asked};
 use crate::demand::turn_from;
 use crate::memo::new_memo;
@@ -19,7 +19,7 @@ pub fn bound<T: Traffic>(traffic: &T, stream: u32) -> Result<Outcome, Refusal>
     ensures { λ r. ⌜ Bound-asked (meaning (now (traffic .entry))) stream r ⌝ }
 {
     let profile = read_profile(traffic, stream)?;
-    let mut memo = new_memo(traffic, &profile)?;
+    let mut memo = new_memo();
     let Outcome::Bounded(first) = worst(traffic, &profile, &mut memo, 0)? else {
         return Ok(Outcome::Unsettled);
     };

@@ -1,11 +1,11 @@
 // What the other nodes send in windows that were worked out before, since it depends on nothing but the window.
 ghost use mathlib.Core.Path.{_≡_};
-ghost use Prim.Native.Nat.{_+_, _≤_, _<_};
+ghost use Prim.Native.Nat.{ℕ, _+_, _≤_, _<_};
 ghost use Rattle.bus.specs.Bound.{others};
+ghost use Rattle.bus.specs.Meaning.{Meaning};
 ghost use Rattle.engine.specs.Memo.{Keeps};
 ghost use Rattle.engine.specs.Profile.{Profiles};
 ghost use Rattle.std.specs.declared.result.Result.the-variants.{Ok};
-ghost use Rattle.std.specs.Results.{Cases};
 use crate::profile::Profile;
 use crate::profile::others;
 use bus::refusal::Refusal;
@@ -13,7 +13,7 @@ use bus::traffic::Traffic;
 
 const SLOTS: usize = 256;
 
-// A window and what the other nodes may send in it.
+// A window and what the other nodes may send in it; window 0 stands for nothing kept.
 #[derive(Clone, Copy)]
 pub(crate) struct Kept {
     window: u32,
@@ -26,14 +26,13 @@ pub(crate) struct Memo {
     slots: [Kept; SLOTS],
 }
 
-pub(crate) fn new_memo<T: Traffic>(traffic: &T, profile: &Profile) -> Result<Memo, Refusal>
-    requires { ⌜ Profiles (meaning (now traffic)) (now profile) ⌝ }
-    ensures { λ r. ⌜ Cases r (Keeps (meaning (now (traffic .entry))) (now (profile .entry) .stream)) (λ _. ⊥) ⌝ }
+const NOTHING: [Kept; SLOTS] = [Kept { window: 0, sent: 0 }; SLOTS];
+
+// A memo that keeps nothing yet.
+pub(crate) fn new_memo() -> Memo
+    ensures { λ r. ⌜ ((m : Meaning) (i : ℕ) → Keeps m i r) ⌝ }
 {
-    let sent = others(traffic, profile, 0)?;
-    Ok(Memo {
-        slots: [Kept { window: 0, sent }; SLOTS],
-    })
+    Memo { slots: NOTHING }
 }
 
 // What the other nodes may send in the window, from its slot where that has it.
@@ -50,7 +49,7 @@ pub(crate) fn recall<T: Traffic>(
 {
     let slot = window as usize % SLOTS;
     let kept = memo.slots[slot];
-    if kept.window == window {
+    if kept.window == window && window > 0 {
         return Ok(kept.sent);
     }
     let sent = others(traffic, profile, window)?;

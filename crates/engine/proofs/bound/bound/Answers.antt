@@ -39,3 +39,11 @@ returns g c =
     let whole = bounding-end _ (g .T·Traffic·met .limits (c .args .traffic .now)) (g .T·Traffic·met .laws (c .args .traffic .now)) (c .in-Continue-profile .profile .stream) (p .known) _ _ _ (c .loop-turn .inv .0) (rw (p .node) at none) in
     let stream-is = c .in-Continue-profile .ensures tt .0 in
     (rw stream-is at (p .known), rw stream-is at whole)
+
+pub worst-requires : need.worst-requires
+worst-requires g c κs =
+    let m = g .T·Traffic .meaning (c .args .traffic .now) in
+    let limits = g .T·Traffic·met .limits (c .args .traffic .now) in
+    let p = profiles g (need.at·worst-requires g c .In-Continue-profile) in
+    let i = c .in-Continue-profile .profile .stream in
+    record { profile = p; phase = limits .some-phase (m .node i) (limits .node-below i (p .known)); kept = c .new-memo-memo .ensures m i }

@@ -7,12 +7,12 @@ use Rattle.bus.specs.Bound.{others}
 use Rattle.engine.proofs.Keeping.{keeps-more}
 use Rattle.engine.proofs.memo.recall.Needs as need
 
-pub returns-then-kept-window : need.returns-then-kept-window
-returns-then-kept-window g c =
+pub returns-then-window-gt0 : need.returns-then-window-gt0
+returns-then-window-gt0 g c =
     let m = g .T·Traffic .meaning (c .args .traffic .now) in
     let inside : c .args .window % 256 < 256 = omega arith in
     record {
-      value = ap Ok (c .pre .1 .true-of (c .args .window % 256) inside ∙ ap (others m (c .args .profile .now .stream)) (c .if-kept-window .taken));
+      value = ap Ok (c .pre .1 .true-of (c .args .window % 256) inside (omega arith) ∙ ap (others m (c .args .profile .now .stream)) (c .if-kept-window .taken));
       keeps = c .pre .1;
     }
 
@@ -25,5 +25,5 @@ returns g c =
     let is : c .in-Continue-sent .sent ≡ others m i (c .args .window) = cc in
     record {
       value = ap Ok is;
-      keeps = keeps-more m i (record { window = c .args .window; sent = c .in-Continue-sent .sent }) is (c .args .memo .now) (c .args .window % 256) inside (c .pre .1);
+      keeps = keeps-more m i (record { window = c .args .window; sent = c .in-Continue-sent .sent }) (λ _. is) (c .args .memo .now) (c .args .window % 256) inside (c .pre .1);
     }
