@@ -1,6 +1,6 @@
 -- What the streams send grows with the window, and toward a nearer phase. Assumes nothing.
 use Prim.Native.Nat.{ℕ, _+_, _-_, _*_, _≤_, _<_}
-use mathlib.Core.Path.{_≡_, refl}
+use mathlib.Core.Path.{_≡_, refl, ap}
 use mathlib.Core.Bool.{Bool, true, not}
 use native.Mathlib.Omega.{arith}
 use native.Mathlib.Nat.{mul-le-mul}
@@ -26,7 +26,7 @@ module _ (m : Meaning) where
       let each = sum-grows (v + m .reach + 1) (λ j. only (leZ (m .place k p (j + 1)) (pos v)) 1) (λ j. only (leZ (m .place k c (j + 1)) (pos w)) 1) (λ j _. placed _ _ v w (near k (j + 1) h refl (omega arith)) more) in
       omega arith
 
-  load-more : (n k p c v w : ℕ) → k < m .streams → m .node k ≡ n → Nearer m n p c → v ≤ w → load m k p v ≤ load m k c w
+  pub load-more : (n k p c v w : ℕ) → k < m .streams → m .node k ≡ n → Nearer m n p c → v ≤ w → load m k p v ≤ load m k c w
   load-more n k p c v w h e near more =
       let near′ : Nearer m (m .node k) p c = rw e near in
       mul-le-mul (count-more k p c v w h near′ more) (omega arith)
@@ -45,7 +45,13 @@ module _ (m : Meaning) where
   heaviest-more : (i n v w : ℕ) → v ≤ w → heaviest m i n v ≤ heaviest m i n w
   heaviest-more i n v w more = largest-grows (m .cycle n) _ _ (λ p _. demand-more i n p p v w (nearer-self m n p) more)
 
+  -- all 16 nodes
+  pub others-all : (i w n : ℕ) → n ≡ 16 → sum-below n (λ k. only (not (eqb k (m .node i))) (heaviest m i k w)) ≡ others m i w
+  unfolding others
+  others-all i w n all = ap (λ x. sum-below x (λ k. only (not (eqb k (m .node i))) (heaviest m i k w))) all
+
   others-more : (i v w : ℕ) → v ≤ w → others m i v ≤ others m i w
+  unfolding others
   others-more i v w more = sum-grows 16 _ _ (λ n _. only-grows (not (eqb n (m .node i))) _ _ (λ _. heaviest-more i n v w more))
 
   pub need-more : (i p c q v w : ℕ) → Nearer m (m .node i) p c → v ≤ w → need m i p q v ≤ need m i c q w

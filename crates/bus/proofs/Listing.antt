@@ -8,8 +8,9 @@ use lib.Signed.{_≤ℤ_, _<ℤ_}
 use Rattle.std.proofs.shelf.Signed.{ints}
 use Rattle.std.proofs.shelf.Tests.{cases-lt}
 use Rattle.bus.specs.Meaning.{Meaning, Limits}
-use Rattle.bus.specs.Bound.{horizon, Settles, SettlingWindow, Taken, Reached, Listed, Response, Unsettled}
+use Rattle.bus.specs.Bound.{horizon, blocking, Settles, SettlingWindow, Taken, Reached, Listed, Response, Unsettled}
 use Rattle.bus.specs.Search.{Starts, SettledPhase}
+use Rattle.bus.proofs.Loads.{blocking-at-most}
 use Rattle.bus.proofs.Windows.{starts-later, windows-same, settled-few}
 
 -- the instances below q are taken, and `most` is their largest response, or 0
@@ -23,12 +24,13 @@ pub record Listing (m : Meaning) (i p q most start : ℕ) : Type 0 where
   pub attained : (most ≡ 0) ⊎ ((e : ℕ) × Response m i p e most)
 
 module _ (m : Meaning) (limits : Limits m) (i p : ℕ) (known : i < m .streams) (is-phase : p < m .cycle (m .node i)) where
-  pub listing-start : Listing m i p 1 0 0
+  -- the search begins at the blocking, which every window needs
+  pub listing-start : Listing m i p 1 0 (blocking m i)
   listing-start = record {
     counts = omega arith;
     few = omega arith;
-    within = omega arith;
-    starts = λ v _. omega arith;
+    within = omega (arith, blocking-at-most m limits i);
+    starts = λ v settles. omega arith;
     reached = λ e one below. absurd (omega arith);
     largest = λ e r below response. omega (arith, response .counts);
     attained = inl refl;

@@ -2,14 +2,14 @@
 use Prim.Native.Nat.{ℕ, _+_, _-_, _*_, _≤_, _<_}
 use mathlib.Core.Path.{_≡_}
 use mathlib.Core.Bool.{Bool, not}
-use lib.Dec.{eqb}
+use lib.Dec.{leb, eqb}
 use native.Mathlib.Omega.{arith}
 use native.Mathlib.Nat.{mul-le-mul}
 use lib.IntN.{pos}
 use lib.Signed.{leZ}
 use Rattle.bus.specs.Sums.{sum-below, only}
 use Rattle.bus.specs.Meaning.{Meaning, Limits, count}
-use Rattle.bus.specs.Bound.{load, demand, heaviest, others, own, urgent, beside}
+use Rattle.bus.specs.Bound.{load, blocking, heaviest, others, own, urgent, beside}
 use Rattle.bus.proofs.Adding.{sum-at-most, largest-at-most, only-at-most}
 
 module _ (m : Meaning) where
@@ -38,10 +38,14 @@ module _ (m : Meaning) where
       sum-at-most n 536870937600 _ (λ k _. omega (arith, only-at-most (other k) (heaviest m i k w), heaviest-at-most limits i k w fits))
 
   pub others-at-most : Limits m → (i w : ℕ) → w + m .reach ≤ 20971520 → others m i w ≤ 8589935001600
+  unfolding others
   others-at-most limits i w fits = heaviests-at-most limits (λ n. not (eqb n (m .node i))) i 16 w fits
 
   pub own-at-most : Limits m → (i p w : ℕ) → w + m .reach ≤ 20971520 → own m i p w ≤ 536870937600
   own-at-most limits i p w fits = omega (arith, loads-at-most limits (beside m i) (m .streams) p w (omega arith) fits, limits .few)
+
+  pub blocking-at-most : Limits m → (i : ℕ) → blocking m i ≤ 200
+  blocking-at-most limits i = largest-at-most (m .streams) 200 _ (λ k l. omega (arith, only-at-most (leb (m .identifier i) (m .identifier k)) (m .longest k), limits .short k l))
 
   pub earlier-at-most : Limits m → (i q : ℕ) → i < m .streams → q ≤ 4194306 → (q - 1) * m .longest i ≤ 838861000
   earlier-at-most limits i q h few =

@@ -34,7 +34,7 @@ module _ (m : Meaning) where
   abbrev pub heaviest : ℕ → ℕ → ℕ → ℕ
   heaviest i n w = largest-below (m .cycle n) (λ p. demand i n p w)
 
-  abbrev pub others : ℕ → ℕ → ℕ
+  unfoldable pub others : ℕ → ℕ → ℕ
   others i w = sum-below 16 (λ n. only (not (eqb n (m .node i))) (heaviest i n w))
 
   -- whether k is another stream of i's node with the same or a lower identifier

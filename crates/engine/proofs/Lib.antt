@@ -1,0 +1,4 @@
+pub mod Gathering
+pub mod Sending
+pub mod Rivals
+pub mod Keeping

@@ -1,0 +1,5 @@
+pub mod Group
+pub mod Profile
+pub mod Memo
+pub mod Window
+pub mod Bounded
