@@ -1,0 +1,5 @@
+pub mod Multiples
+pub mod Leads
+pub mod Firsts
+pub mod Turnings
+pub mod Tallies
