@@ -1,0 +1,4 @@
+pub mod Record
+pub mod Cycle
+pub mod Streams
+pub mod Plan
