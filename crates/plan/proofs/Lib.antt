@@ -1,2 +1,5 @@
 pub mod Limited
 pub mod Places
+pub mod Kept
+pub mod Judged
+pub mod Plans

@@ -2,3 +2,4 @@ pub mod Record
 pub mod Cycle
 pub mod Streams
 pub mod Plan
+pub mod Held

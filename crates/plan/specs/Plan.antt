@@ -26,5 +26,5 @@ unfoldable pub too-long : List Record → Bool
 too-long rs = ltb 4194304 (largest-below 16 (λ n. cycle-of n rs))
 
 -- what refuses a new record, in rising number
-abbrev pub enter-rules : Record → List Record → Rules
+unfoldable pub enter-rules : Record → List Record → Rules
 enter-rules r rs = limits r ++ (holds (r .identifier) rs, Held) ∷ (leb 64 (length rs), Full) ∷ (too-long (rs ++ r ∷ []), Cycle) ∷ []
