@@ -3,3 +3,4 @@ pub mod Leads
 pub mod Firsts
 pub mod Turnings
 pub mod Tallies
+pub mod Placed

@@ -28,12 +28,16 @@ use Rattle.plan.specs.Plan.{holds, apart, too-long}
 use Rattle.plan.specs.Streams.{parts, streams-of, reach-of}
 use Rattle.plan.proofs.Limited.{interval-some, fits}
 
--- what an open plan keeps true of its records and of what stands beside them
-pub record Kept (records : List Record) (streams : List Stream) (cycles : List ℕ) (reach : ℕ) : Type 0 where
+-- what an open plan keeps true of its records
+pub record Sound (records : List Record) : Type 0 where
   pub few : length records ≤ 64
   pub within : all-within records ≡ true
   pub distinct : apart records ≡ true
   pub short : too-long records ≡ false
+
+-- and of what stands beside them
+pub record Kept (records : List Record) (streams : List Stream) (cycles : List ℕ) (reach : ℕ) : Type 0 where
+  pub sound : Sound records
   pub carried : streams ≡ streams-of records
   pub cycled : (n : ℕ) → n < 16 → getD cycles n 0 ≡ cycle-of n records
   pub reached : reach ≡ reach-of records
@@ -115,7 +119,7 @@ unfolding too-long
 none-long = refl
 
 pub none-kept : Kept [] [] (replicate 16 1) 0
-none-kept = record { few = omega arith; within = refl; distinct = refl; short = none-long; carried = refl; cycled = λ n h. getD-replicate 16 n 1 0 h; reached = refl }
+none-kept = record { sound = record { few = omega arith; within = refl; distinct = refl; short = none-long }; carried = refl; cycled = λ n h. getD-replicate 16 n 1 0 h; reached = refl }
 
 -- ---- one message more
 
@@ -143,10 +147,12 @@ apart-push (x ∷ rs) r h free =
 pub entered-kept : (rs : List Record) (ss : List Stream) (cs : List ℕ) (reach : ℕ) (r : Record) → Kept rs ss cs reach → within r ≡ true → holds (r .identifier) rs ≡ false → length rs < 64 → too-long (rs ++ r ∷ []) ≡ false → length cs ≡ 16
     → Kept (rs ++ r ∷ []) (ss ++ parts r (r .kind)) (set cs (r .node) (cycle-of (r .node) (rs ++ r ∷ []))) (max reach (r .jitter))
 entered-kept rs ss cs reach r old good free room short all = record {
-  few = omega (arith, length-push rs r);
-  within = within-push rs r (old .within) good;
-  distinct = apart-push rs r (old .distinct) free;
-  short = short;
+  sound = record {
+    few = omega (arith, length-push rs r);
+    within = within-push rs r (old .sound .within) good;
+    distinct = apart-push rs r (old .sound .distinct) free;
+    short = short;
+  };
   carried = ap (λ x. x ++ parts r (r .kind)) (old .carried) ∙ joined-more (λ x. parts x (x .kind)) [] rs r;
   cycled = λ n h. elim (cases-eq (r .node) n) [
     | inl same ↦ subst (λ k. getD (set cs (r .node) (cycle-of (r .node) (rs ++ r ∷ []))) k 0 ≡ cycle-of k (rs ++ r ∷ [])) same

@@ -3,3 +3,4 @@ pub mod Places
 pub mod Kept
 pub mod Judged
 pub mod Plans
+pub mod Carried

@@ -13,10 +13,13 @@ use Rattle.plan.specs.Record.{within}
 use Rattle.plan.specs.Cycle.{cycle-of, periods-in}
 use Rattle.plan.specs.Held.{held}
 use Rattle.plan.proofs.Limited.{fits}
-use Rattle.plan.proofs.Kept.{Kept, cycle-some, cycle-here}
+use Rattle.plan.proofs.Kept.{Sound, Kept, cycle-some, cycle-here}
+
+pub sound : (p : OpenPlan) → Sound (held p)
+sound p = record { few = p .few; within = p .within; distinct = p .distinct; short = p .short }
 
 pub kept : (p : OpenPlan) → Kept (held p) (p .streams .items) (p .cycles) (p .reach)
-kept p = record { few = p .few; within = p .within; distinct = p .distinct; short = p .short; carried = p .carried; cycled = p .cycled; reached = p .reached }
+kept p = record { sound = sound p; carried = p .carried; cycled = p .cycled; reached = p .reached }
 
 module _ (p : OpenPlan) (r : Record) (good : within r ≡ true) where
   -- the cycle that is kept for the message's node

@@ -67,7 +67,7 @@ ghost-self c =
     let new = entered-kept rs (c .args .self .now .streams .items) (c .args .self .now .cycles) (c .args .self .now .reach) r (kept (c .args .self .now)) (a .good) (a .free) (a .room) (a .short) all in
     let k : Kept (c .push-reserved .last .self .items) (c .push-streams .last .streams .items) (set (c .args .self .now .cycles) (r .node) (c .in-Continue-cycle .cycle)) (c .max-self .result) =
     rw (c .push-reserved .ensures .items, c .push-streams .ensures .items, is, c .max-self .ensures) new in
-    (k .few, (k .within, (k .distinct, (k .short, (omega (arith, c .push-reserved .ensures .capacity, c .args .self .now .room), (k .carried, (omega (arith, c .push-streams .ensures .capacity, c .args .self .now .space), (k .cycled, (k .reached, tt)))))))))
+    (k .sound .few, (k .sound .within, (k .sound .distinct, (k .sound .short, (omega (arith, c .push-reserved .ensures .capacity, c .args .self .now .room), (k .carried, (omega (arith, c .push-streams .ensures .capacity, c .args .self .now .space), (k .cycled, (k .reached, tt)))))))))
 
 pub returns : need.returns
 returns c =

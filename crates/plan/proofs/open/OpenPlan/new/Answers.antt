@@ -13,4 +13,4 @@ ghost-result c =
     let none-held : c .in-Continue-records .records .items ≡ [] = records .0 in
     let none-carried : c .in-Continue-streams .streams .items ≡ [] = streams .0 in
     let k : Kept (c .in-Continue-records .records .items) (c .in-Continue-streams .streams .items) (replicate {A = ℕ} 16 1) 0 = rw (none-held, none-carried) none-kept in
-    (k .few, (k .within, (k .distinct, (k .short, (records .1 .1, (k .carried, (streams .1 .1, (k .cycled, (k .reached, tt)))))))))
+    (k .sound .few, (k .sound .within, (k .sound .distinct, (k .sound .short, (records .1 .1, (k .carried, (streams .1 .1, (k .cycled, (k .reached, tt)))))))))
