@@ -149,8 +149,11 @@ module _ (rs : List Record) (s : Sound rs) where
         sent = d .1 .1;
       })
 
+  pub all-known : All (Known rs) (streams-of rs)
+  all-known = each-stream Declared (Known rs) one-known rs all-declared
+
   pub known : (i : ℕ) → i < length (streams-of rs) → Known rs (stream-at rs i)
-  known i h = all-getD (Known rs) (streams-of rs) i silent h (each-stream Declared (Known rs) one-known rs all-declared)
+  known i h = all-getD (Known rs) (streams-of rs) i silent h all-known
 
   pub reach-fits : reach-of rs ≤ 1048576
   reach-fits = reach-small 0 1048576 rs (omega arith) (all-weaker Fits (λ r. r .jitter ≤ 1048576) (λ r f. f .jitter) rs (all-fit rs (s .within)))

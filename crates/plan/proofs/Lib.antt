@@ -4,3 +4,5 @@ pub mod Kept
 pub mod Judged
 pub mod Plans
 pub mod Carried
+pub mod Turned
+pub mod Found

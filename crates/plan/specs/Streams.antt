@@ -7,6 +7,9 @@ use lib.Dec.{eqb}
 use lib.ListN.{length, getD}
 use Rattle.std.specs.Iters.{folded}
 use Rattle.std.specs.Joined.{joined}
+use Rattle.std.specs.declared.result.Result.{Result}
+use Rattle.std.specs.declared.result.Result.the-variants.{Ok, Err}
+use Rattle.bus.specs.declared.refusal.Refusal.{Refusal}
 use Rattle.bus.specs.Frame as frame
 use Rattle.bus.specs.Meaning.{Meaning}
 use Rattle.clock.specs.declared.timing.Timing.{Timing}
@@ -32,7 +35,7 @@ streams-of rs = joined (λ r. parts r (r .kind)) rs
 
 -- what stands past the last
 abbrev pub silent : Stream
-silent = record { node = 0; identifier = 0; longest = 0; jitter = 0; timing = Event 0 }
+silent = record { node = 0; identifier = 0; longest = 0; jitter = 0; timing = Timed 0 0 }
 
 abbrev pub turning : ℕ → ℕ → Stream → Bool
 turning n p s = eqb (s .node) n && turns-at (s .timing) (s .jitter) p
@@ -61,3 +64,14 @@ traffic-of rs = record {
   turns = λ n p. some-turn n p (streams-of rs);
   reach = reach-of rs;
 }
+
+-- t is the first phase from p on, and before the end, at which a stream of node n turns, or else the end
+pub record Soonest (n p end : ℕ) (ss : List Stream) (t : ℕ) : Type 0 where
+  pub low : p ≤ t
+  pub high : t ≤ end
+  pub none : (k : ℕ) → p ≤ k → k < t → some-turn n k ss ≡ false
+  pub here : t < end → some-turn n t ss ≡ true
+
+abbrev pub Soonest-found : ℕ → ℕ → ℕ → List Stream → Result ℕ Refusal → Type 0
+Soonest-found n p end ss (Ok t) = Soonest n p end ss t
+Soonest-found n p end ss (Err e) = ⊥

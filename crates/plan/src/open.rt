@@ -11,6 +11,7 @@ use crate::record::Record;
 use crate::stream::Stream;
 
 pub mod calls;
+pub mod traffic;
 
 // Beside the messages stands what questions need again and again: their streams, the cycle of each node and the reach.
 #[derive(Drop)]

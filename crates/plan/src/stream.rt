@@ -1,14 +1,17 @@
 // The streams of the messages, in their order: what is asked of a traffic again and again.
 ghost use mathlib.Core.Bool.{true};
-ghost use mathlib.Core.List.{_++_};
+ghost use mathlib.Core.List.{[], _∷_, _++_};
 ghost use mathlib.Core.Path.{_≡_};
 ghost use Prim.Native.Nat.{_+_, _≤_};
 ghost use Rattle.std.specs.Of.Vec.{vec-items, vec-len, vec-cap};
+ghost use Rattle.std.specs.shelf.Lists.{All};
+ghost use Rattle.clock.specs.Timing.{Paced};
 ghost use Rattle.plan.specs.Record.{within};
-ghost use Rattle.plan.specs.Streams.{stream-of, parts};
+ghost use Rattle.plan.specs.Streams.{stream-of, parts, Soonest-found};
 use crate::record::Kind;
 use crate::record::Record;
 use bus::frame;
+use bus::refusal::Refusal;
 use clock::timing::Timing;
 
 #[derive(Clone, Copy)]
@@ -67,4 +70,39 @@ pub(crate) fn push_streams(streams: &mut Vec<Stream>, message: Record)
             streams.push_reserved(stream_of(message, timing));
         }
     }
+}
+
+impl Stream {
+    // The sooner of `end` and the first phase from `phase` on at which the stream turns, if it is one of the node.
+    fn sooner(self, node: u32, phase: u32, end: u32) -> Result<u32, Refusal>
+        requires paced { ⌜ Paced (self .timing) ⌝ }
+        requires before { ⌜ phase ≤ end ⌝ }
+        ensures { λ r. ⌜ Soonest-found node phase end (self ∷ []) r ⌝ }
+    {
+        if self.node != node {
+            return Ok(end);
+        }
+        match self.timing.next_turn(self.jitter, phase)? {
+            Some(turn) => Ok(turn.min(end as u64) as u32),
+            None => Ok(end),
+        }
+    }
+}
+
+// The first phase from `phase` on, and before `end`, at which a stream of the node turns, or else `end`.
+pub(crate) fn soonest_turn(
+    streams: &[Stream],
+    node: u32,
+    phase: u32,
+    end: u32,
+) -> Result<u32, Refusal>
+    requires paced { ⌜ All (λ s. Paced (s .timing)) (now streams) ⌝ }
+    requires before { ⌜ phase ≤ end ⌝ }
+    ensures { λ r. ⌜ Soonest-found node phase end (now (streams .entry)) r ⌝ }
+{
+    let mut soonest = end;
+    for stream in streams {
+        soonest = stream.sooner(node, phase, soonest)?;
+    }
+    Ok(soonest)
 }
