@@ -21,6 +21,7 @@ pub record Fits (r : Record) : Type 0 where
   pub intervals : intervals (r .kind) ≡ true
   pub offset : offset-below (r .kind) ≡ true
   pub jitter : r .jitter ≤ 1048576
+  pub due : r .due ≤ 4194304
 
 pub fits : (r : Record) → within r ≡ true → Fits r
 fits r h =
@@ -30,6 +31,7 @@ fits r h =
     let p4 = rule-passed _ _ _ (p3 .1) in
     let p5 = rule-passed _ _ _ (p4 .1) in
     let p6 = rule-passed _ _ _ (p5 .1) in
+    let p7 = rule-passed _ _ _ (p6 .1) in
     record {
       identifier = ltb-false _ _ (p1 .0);
       node = ltb-false _ _ (p2 .0);
@@ -37,4 +39,5 @@ fits r h =
       intervals = not-false _ (p4 .0);
       offset = not-false _ (p5 .0);
       jitter = ltb-false _ _ (p6 .0);
+      due = leb-true (r .due) _ (and-parts (ltb 0 (r .due)) _ (not-false _ (p7 .0)) .1);
     }

@@ -5,7 +5,7 @@ ghost use lib.ListN.{length};
 ghost use Rattle.std.specs.Vec.{made};
 ghost use Rattle.bus.specs.Refused.{answer, Done};
 ghost use Rattle.plan.specs.Cycle.{cycle-of, Least-cycles};
-ghost use Rattle.plan.specs.Held.{held};
+ghost use Rattle.plan.specs.Held.{held, Message-asked};
 ghost use Rattle.plan.specs.Plan.{enter-rules};
 use super::OpenPlan;
 use crate::cycle::cycle_with;
@@ -42,6 +42,13 @@ impl OpenPlan {
         ensures { λ r. ⌜ r ≡ length (held (now (self .entry))) ⌝ }
     {
         self.records.len()
+    }
+
+    // The message at a position, counted from 0 in the order in which they were entered.
+    pub fn message(&self, position: usize) -> Option<Record>
+        ensures { λ r. ⌜ Message-asked (held (now (self .entry))) position r ⌝ }
+    {
+        self.records.get(position).copied()
     }
 
     // The cycle that the message's node will have, unless the message is refused.

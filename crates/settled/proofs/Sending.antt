@@ -1,0 +1,43 @@
+-- Every message held has a stream, and keeps its limits. Assumes nothing.
+use Prim.Native.Nat.{ℕ, zero, suc, _+_, _<_}
+use mathlib.Core.Path.{_≡_, refl, ap, _∙_}
+use mathlib.Core.Bool.{true}
+use mathlib.Core.List.{List, [], _∷_, _++_}
+use native.Mathlib.Omega.{arith}
+use lib.ListN.{length, getD, length-append}
+use Rattle.std.proofs.shelf.Lists.{getD-append-add}
+use Rattle.std.proofs.shelf.Tests.{and-parts}
+use Rattle.plan.specs.declared.record.Kind.{Kind}
+use Rattle.plan.specs.declared.record.Kind.the-variants.{Periodic, Sporadic, Mixed}
+use Rattle.plan.specs.declared.record.Record.{Record}
+use Rattle.plan.specs.declared.stream.Stream.{Stream}
+use Rattle.plan.specs.Record.{within}
+use Rattle.plan.specs.Cycle.{all-within}
+use Rattle.plan.specs.Held.{record-at}
+use Rattle.plan.specs.Streams.{parts, silent, streams-of, traffic-of}
+use Rattle.verdict.specs.Judged.{Sends}
+
+pub within-at : (records : List Record) → all-within records ≡ true → (k : ℕ) → k < length records → within (record-at records k) ≡ true
+within-at [] all k l = absurd (omega arith)
+within-at (r ∷ records) all zero l = and-parts (within r) (all-within records) all .0
+within-at (r ∷ records) all (suc k) l = within-at records (and-parts (within r) (all-within records) all .1) k (omega arith)
+
+-- a message has a stream, and the first is its own
+first-sends : (r : Record) (kind : Kind) (rest : List Stream) → (0 < length (parts r kind ++ rest)) × (getD (parts r kind ++ rest) 0 silent .identifier ≡ r .identifier)
+first-sends r (Periodic period offset) rest = (omega arith, refl)
+first-sends r (Sporadic gap) rest = (omega arith, refl)
+first-sends r (Mixed period offset gap) rest = (omega arith, refl)
+
+-- one of its streams
+pub sends-at : (records : List Record) (k : ℕ) → k < length records → (i : ℕ) × Sends (traffic-of records) (record-at records k .identifier) (length (streams-of records)) i
+sends-at [] k l = absurd (omega arith)
+sends-at (r ∷ records) zero l = let first = first-sends r (r .kind) (streams-of records) in (0, record { known = first .0; is = first .1 })
+sends-at (r ∷ records) (suc k) l =
+    let found = sends-at records k (omega arith) in
+    let here : ℕ = length (parts r (r .kind)) in (
+      here + found .0,
+      record {
+        known = omega (arith, length-append (parts r (r .kind)) (streams-of records), found .1 .known);
+        is = ap (λ s. s .identifier) (getD-append-add (parts r (r .kind)) (streams-of records) (found .0) silent) ∙ found .1 .is;
+      },
+    )
