@@ -1,0 +1,2 @@
+// A table: its lines entered into a plan, and the report on it.
+pub mod table;
