@@ -1,0 +1,2 @@
+// The declared plan of a bus.
+pub mod record;
