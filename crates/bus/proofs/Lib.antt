@@ -1,5 +1,6 @@
 pub mod Adding
 pub mod Answered
+pub mod Ruled
 pub mod Growing
 pub mod Loads
 pub mod Nearer

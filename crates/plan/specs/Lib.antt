@@ -1,0 +1,5 @@
+pub mod Record
+pub mod Cycle
+pub mod Streams
+pub mod Open
+pub mod Held

@@ -1,0 +1,87 @@
+// What can be done with an open plan.
+ghost use mathlib.Core.List.{[], _∷_, _++_};
+ghost use mathlib.Core.Path.{_≡_};
+ghost use lib.ListN.{length};
+ghost use Rattle.std.specs.Vec.{made};
+ghost use Rattle.bus.specs.Refused.{answer, Done};
+ghost use Rattle.plan.specs.Cycle.{cycle-of, Least-cycles};
+ghost use Rattle.plan.specs.Held.{held};
+ghost use Rattle.plan.specs.Open.{holds, enter-rules};
+use super::OpenPlan;
+use crate::cycle::cycle_with;
+use crate::record::Record;
+use crate::streams::push_streams;
+use bus::refusal::Refusal;
+use std::alloc::AllocError;
+use std::alloc::Global;
+
+const MOST_RECORDS: usize = 64;
+
+const MOST_STREAMS: usize = 128;
+
+const LONGEST_CYCLE: u64 = 4194304;
+
+fn holds(records: &[Record], identifier: u64) -> bool
+    ensures { λ r. ⌜ r ≡ holds identifier (now (records .entry)) ⌝ }
+{
+    for message in records {
+        if message.identifier == identifier {
+            return true;
+        }
+    }
+    false
+}
+
+impl OpenPlan {
+    // A plan without messages. It takes all the memory that it will need.
+    pub fn new(heap: Global) -> Result<OpenPlan, AllocError>
+        ensures { λ r. ⌜ made r (λ p. held p ≡ []) ⌝ }
+    {
+        let records = Vec::with_capacity(heap, MOST_RECORDS)?;
+        let streams = Vec::with_capacity(heap, MOST_STREAMS)?;
+        Ok(OpenPlan {
+            records,
+            streams,
+            cycles: [1; 16],
+            reach: 0,
+        })
+    }
+
+    // How many messages are held.
+    pub fn len(&self) -> usize
+        ensures { λ r. ⌜ r ≡ length (held (now (self .entry))) ⌝ }
+    {
+        self.records.len()
+    }
+
+    // The cycle that the message's node will have, unless the message is refused.
+    fn judge(&self, message: Record) -> Result<u32, Refusal>
+        ensures { λ r. ⌜ r ≡ answer (enter-rules message (held (now (self .entry)))) (cycle-of (message .node) (held (now (self .entry)) ++ message ∷ [])) ⌝ }
+    {
+        message.check()?;
+        if holds(&self.records, message.identifier) {
+            return Err(Refusal::Held);
+        }
+        if self.len() >= MOST_RECORDS {
+            return Err(Refusal::Full);
+        }
+        let cycle = cycle_with(self.cycles[message.node as usize], message.kind);
+        if cycle > LONGEST_CYCLE {
+            return Err(Refusal::Cycle);
+        }
+        Ok(cycle as u32)
+    }
+
+    // Takes a message in, after all others, and says how many are held then.
+    pub fn enter(&mut self, message: Record) -> Result<usize, Refusal>
+        ensures entered { λ r. ⌜ Done (enter-rules message (held (now (self .entry)))) (held (now (self .entry))) (held (now (self .entry)) ++ message ∷ []) r (held (now (self .exit))) ⌝ }
+        ensures cycles { λ _. ⌜ Least-cycles ⌝ }
+    {
+        let cycle = self.judge(message)?;
+        self.records.push_reserved(message);
+        push_streams(&mut self.streams, message);
+        self.cycles[message.node as usize] = cycle;
+        self.reach = self.reach.max(message.jitter as u32);
+        Ok(self.len())
+    }
+}
