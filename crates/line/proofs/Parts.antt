@@ -1,6 +1,6 @@
 -- A part of the text, as a token hands it out, and what is asked for beside it. Assumes nothing.
 use mathlib.Core.Path.{_≡_, refl, sym, ap, ap₂, subst, _∙_}
-use mathlib.Core.Logic.{_⊎_, inl, inr, ⊎-elim}
+use mathlib.Core.Logic.{_⊎_, inl, inr}
 use Prim.Native.Nat.{ℕ, _+_, _-_, _≤_, _<_}
 use mathlib.Core.List.{List, [], _∷_, _++_, append-nil}
 use native.Mathlib.Nat.{add-zero}
@@ -40,15 +40,24 @@ module _ (s : List ℕ) (at end : ℕ) (some : at < end) (within : end ≤ lengt
       let p = part Letter all in
       record { letters = p .all; some = omega (arith, p .ends); stands = p .stands; stops = rw (p .ends) stops }
 
-  pub number-stands : ((k : ℕ) → at ≤ k → k < end → Digit (getD s k 0)) → end ≤ at + 10 → (getD s at 0 ≡ 48 → end ≡ at + 1) → (Digit (getD s end 0) → (getD s at 0 ≡ 48) ⊎ (end ≡ at + 10)) → Number-stands s at (take (end - at) (drop at s))
-  number-stands all short lone stops =
+  -- a number has one digit if that is 0, and else up to ten
+  pub number-stands : (most : ℕ) → ((getD s at 0 ≡ 48) × (most ≡ 1)) ⊎ ((getD s at 0 ≡ 48 → ⊥) × (most ≡ 10)) → ((k : ℕ) → at ≤ k → k < end → Digit (getD s k 0)) → end ≤ at + most → (Digit (getD s end 0) → end ≡ at + most) → Number-stands s at (take (end - at) (drop at s))
+  number-stands most digits all short stops =
       let p = part Digit all in
       let ends = p .ends in
-      record {
-        numeral = record { all = p .all; some = omega arith; short = omega arith; lone = λ zero. omega (arith, lone (sym (p .first) ∙ zero)) };
-        stands = p .stands;
-        stops = rw ends (λ digit. ⊎-elim (λ zero. inl (p .first ∙ zero)) (λ ten. inr (omega arith)) (stops digit));
-      }
+      let stands = p .stands in
+      elim digits [
+        | inl zero ↦ record {
+          numeral = record { all = p .all; some = omega arith; short = omega arith; lone = λ _. omega arith };
+          stands = stands;
+          stops = λ _. inl (p .first ∙ zero .0);
+        }
+        | inr other ↦ record {
+          numeral = record { all = p .all; some = omega arith; short = omega arith; lone = λ zero. absurd (other .0 (sym (p .first) ∙ zero)) };
+          stands = stands;
+          stops = rw ends (λ digit. inr (omega (arith, stops digit)));
+        }
+      ]
 
 -- a part stands within the text
 pub stands-within : {w s : List ℕ} {at n : ℕ} → 0 < length w → Stands w s at n → n ≤ length s

@@ -59,11 +59,9 @@ fn number_at(text: &[u8], at: usize) -> &[u8]
     requires first { ⌜ Digit (getD (now text) at 0) ⌝ }
     ensures { λ r. ⌜ Number-stands (now (text .entry)) at (now r) ⌝ }
 {
+    let most = if text[at] == b'0' { 1 } else { MOST_DIGITS };
     let mut end = at + 1;
-    if text[at] == b'0' {
-        return &text[at..end];
-    }
-    while end < text.len() && end - at < MOST_DIGITS && text[end].is_ascii_digit() {
+    while end < text.len() && end - at < most && text[end].is_ascii_digit() {
         end += 1;
     }
     &text[at..end]

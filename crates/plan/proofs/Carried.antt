@@ -21,10 +21,10 @@ use Rattle.clock.proofs.Placed.{Brief, Cycles, place-first, place-apart, place-
 use Rattle.plan.specs.declared.record.Kind.{Kind}
 use Rattle.plan.specs.declared.record.Kind.the-variants.{Periodic, Sporadic, Mixed}
 use Rattle.plan.specs.declared.record.Record.{Record}
-use Rattle.plan.specs.declared.stream.Stream.{Stream}
+use Rattle.plan.specs.declared.streams.Stream.{Stream}
 use Rattle.plan.specs.Record.{interval, intervals, within}
 use Rattle.plan.specs.Cycle.{all-within, periods-in, periods-at, periods, cycle-of}
-use Rattle.plan.specs.Plan.{holds, apart, too-long}
+use Rattle.plan.specs.Open.{holds, apart, too-long}
 use Rattle.plan.specs.Streams.{stream-of, parts, streams-of, silent, turning, some-turn, reach-of, stream-at, traffic-of}
 use Rattle.plan.proofs.Limited.{Fits, fits, interval-some, interval-most}
 use Rattle.plan.proofs.Kept.{Sound, cycle-some, least-cycles, short-at, streams-few}

@@ -16,7 +16,7 @@ use Rattle.bus.proofs.Answered.{within, answer, below-or-not}
 use Rattle.bus.proofs.Growing.{count-is}
 use Rattle.clock.specs.Timing.{Paced, place-of, Counted, Place-told, Count-told}
 use Rattle.plan.specs.declared.record.Record.{Record}
-use Rattle.plan.specs.declared.stream.Stream.{Stream}
+use Rattle.plan.specs.declared.streams.Stream.{Stream}
 use Rattle.plan.specs.Cycle.{cycle-of}
 use Rattle.plan.specs.Streams.{streams-of, stream-at, reach-of, traffic-of}
 use Rattle.plan.proofs.Kept.{Sound}

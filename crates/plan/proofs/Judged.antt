@@ -16,7 +16,7 @@ use Rattle.bus.proofs.Refusing.{rule-passed, answer-past, answer-stays, answer-
 use Rattle.plan.specs.declared.record.Record.{Record}
 use Rattle.plan.specs.Record.{limits, within}
 use Rattle.plan.specs.Cycle.{cycle-of}
-use Rattle.plan.specs.Plan.{holds, too-long, enter-rules}
+use Rattle.plan.specs.Open.{holds, too-long, enter-rules}
 use Rattle.plan.proofs.Limited.{fits}
 use Rattle.plan.proofs.Kept.{long-at}
 

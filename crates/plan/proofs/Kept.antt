@@ -21,10 +21,10 @@ use Rattle.clock.proofs.Multiples.{lcm-of-some, least-multiples}
 use Rattle.plan.specs.declared.record.Kind.{Kind}
 use Rattle.plan.specs.declared.record.Kind.the-variants.{Periodic, Sporadic, Mixed}
 use Rattle.plan.specs.declared.record.Record.{Record}
-use Rattle.plan.specs.declared.stream.Stream.{Stream}
+use Rattle.plan.specs.declared.streams.Stream.{Stream}
 use Rattle.plan.specs.Record.{within, interval, intervals}
 use Rattle.plan.specs.Cycle.{all-within, periods-in, periods-at, periods, cycle-of, Least-cycles}
-use Rattle.plan.specs.Plan.{holds, apart, too-long}
+use Rattle.plan.specs.Open.{holds, apart, too-long}
 use Rattle.plan.specs.Streams.{parts, streams-of, reach-of}
 use Rattle.plan.proofs.Limited.{interval-some, fits}
 

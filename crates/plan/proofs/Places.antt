@@ -9,7 +9,7 @@ use Rattle.std.proofs.shelf.Lists.{at-drop-more}
 use Rattle.std.proofs.shelf.Tests.{or-left, eq-eqb, ne-eqb}
 use Rattle.plan.specs.declared.record.Kind.the-variants.{Periodic}
 use Rattle.plan.specs.declared.record.Record.{Record}
-use Rattle.plan.specs.Plan.{holds}
+use Rattle.plan.specs.Open.{holds}
 
 -- what stands past the end
 abbrev pub blank : Record

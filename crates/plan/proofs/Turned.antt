@@ -8,7 +8,7 @@ use native.Mathlib.Omega.{arith}
 use lib.ListN.{length, take, getD}
 use Rattle.std.proofs.shelf.Lists.{take-more}
 use Rattle.std.proofs.shelf.Tests.{or-left, or-right, or-from, cases-lt}
-use Rattle.plan.specs.declared.stream.Stream.{Stream}
+use Rattle.plan.specs.declared.streams.Stream.{Stream}
 use Rattle.plan.specs.Streams.{silent, turning, some-turn, Soonest}
 
 some-turn-append : (n k : ℕ) (xs ys : List Stream) → some-turn n k (xs ++ ys) ≡ (some-turn n k xs || some-turn n k ys)

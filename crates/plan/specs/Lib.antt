@@ -1,5 +1,5 @@
 pub mod Record
 pub mod Cycle
 pub mod Streams
-pub mod Plan
+pub mod Open
 pub mod Held

@@ -18,7 +18,7 @@ use Rattle.clock.specs.Timing.{place-of, turns-at}
 use Rattle.plan.specs.declared.record.Kind.{Kind}
 use Rattle.plan.specs.declared.record.Kind.the-variants.{Periodic, Sporadic, Mixed}
 use Rattle.plan.specs.declared.record.Record.{Record}
-use Rattle.plan.specs.declared.stream.Stream.{Stream}
+use Rattle.plan.specs.declared.streams.Stream.{Stream}
 use Rattle.plan.specs.Cycle.{cycle-of}
 
 abbrev pub stream-of : Record → Timing → Stream

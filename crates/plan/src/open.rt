@@ -5,10 +5,10 @@ ghost use Prim.Native.Nat.{ℕ, _≤_, _<_};
 ghost use lib.ListN.{length, getD};
 ghost use Rattle.std.specs.Of.Vec.{vec-items, vec-cap};
 ghost use Rattle.plan.specs.Cycle.{all-within, cycle-of};
-ghost use Rattle.plan.specs.Plan.{apart, too-long};
+ghost use Rattle.plan.specs.Open.{apart, too-long};
 ghost use Rattle.plan.specs.Streams.{streams-of, reach-of};
 use crate::record::Record;
-use crate::stream::Stream;
+use crate::streams::Stream;
 
 pub mod calls;
 pub mod traffic;

@@ -10,7 +10,7 @@ use Rattle.std.proofs.shelf.Tests.{and-parts}
 use Rattle.plan.specs.declared.record.Kind.{Kind}
 use Rattle.plan.specs.declared.record.Kind.the-variants.{Periodic, Sporadic, Mixed}
 use Rattle.plan.specs.declared.record.Record.{Record}
-use Rattle.plan.specs.declared.stream.Stream.{Stream}
+use Rattle.plan.specs.declared.streams.Stream.{Stream}
 use Rattle.plan.specs.Record.{within}
 use Rattle.plan.specs.Cycle.{all-within}
 use Rattle.plan.specs.Held.{record-at}

@@ -12,7 +12,7 @@ use Rattle.bus.specs.declared.refusal.Refusal.{Refusal}
 use Rattle.bus.specs.declared.refusal.Refusal.the-variants.{Identifier, Node, Bytes, Period, Offset, Jitter, Due, Line, Text, Question, Delay, Spans, Held, NotHeld, Full, Cycle, Reach}
 use Rattle.bus.specs.Refused.{answer}
 use Rattle.plan.specs.declared.record.Record.{Record}
-use Rattle.plan.specs.Plan.{enter-rules}
+use Rattle.plan.specs.Open.{enter-rules}
 use Rattle.line.specs.Line.{line-of, Lawful, Reads, Faults}
 use Rattle.table.specs.declared.table.Fault.{Fault}
 use Rattle.table.specs.declared.table.Layer.{Layer}

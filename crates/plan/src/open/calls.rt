@@ -6,12 +6,11 @@ ghost use Rattle.std.specs.Vec.{made};
 ghost use Rattle.bus.specs.Refused.{answer, Done};
 ghost use Rattle.plan.specs.Cycle.{cycle-of, Least-cycles};
 ghost use Rattle.plan.specs.Held.{held, Message-asked};
-ghost use Rattle.plan.specs.Plan.{enter-rules};
+ghost use Rattle.plan.specs.Open.{holds, enter-rules};
 use super::OpenPlan;
 use crate::cycle::cycle_with;
-use crate::held::holds;
 use crate::record::Record;
-use crate::stream::push_streams;
+use crate::streams::push_streams;
 use bus::refusal::Refusal;
 use std::alloc::AllocError;
 use std::alloc::Global;
@@ -21,6 +20,17 @@ const MOST_RECORDS: usize = 64;
 const MOST_STREAMS: usize = 128;
 
 const LONGEST_CYCLE: u64 = 4194304;
+
+fn holds(records: &[Record], identifier: u64) -> bool
+    ensures { λ r. ⌜ r ≡ holds identifier (now (records .entry)) ⌝ }
+{
+    for message in records {
+        if message.identifier == identifier {
+            return true;
+        }
+    }
+    false
+}
 
 impl OpenPlan {
     // A plan without messages. It takes all the memory that it will need.
@@ -59,7 +69,7 @@ impl OpenPlan {
         if holds(&self.records, message.identifier) {
             return Err(Refusal::Held);
         }
-        if self.records.len() >= MOST_RECORDS {
+        if self.len() >= MOST_RECORDS {
             return Err(Refusal::Full);
         }
         let cycle = cycle_with(self.cycles[message.node as usize], message.kind);
@@ -79,6 +89,6 @@ impl OpenPlan {
         push_streams(&mut self.streams, message);
         self.cycles[message.node as usize] = cycle;
         self.reach = self.reach.max(message.jitter as u32);
-        Ok(self.records.len())
+        Ok(self.len())
     }
 }

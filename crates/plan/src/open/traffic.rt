@@ -6,8 +6,8 @@ ghost use Rattle.plan.specs.Cycle.{cycle-of};
 ghost use Rattle.plan.specs.Held.{held};
 ghost use Rattle.plan.specs.Streams.{streams-of, stream-at, traffic-of};
 use super::OpenPlan;
-use crate::stream::Stream;
-use crate::stream::soonest_turn;
+use crate::streams::Stream;
+use crate::streams::soonest_turn;
 use bus::refusal::Refusal;
 use bus::traffic::Traffic;
 

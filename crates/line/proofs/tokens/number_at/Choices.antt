@@ -4,7 +4,7 @@ use Rattle.line.specs.Tokens.{Digit}
 use Rattle.line.proofs.tokens.number_at.Given as given
 
 abbrev pub Inv-loop-end : given.InvT-loop-end
-Inv-loop-end l = (l .at < l .end) × (l .end ≤ length (l .text)) × (l .end ≤ l .at + 10) × ((k : ℕ) → l .at ≤ k → k < l .end → Digit (getD (l .text) k 0))
+Inv-loop-end l = (l .at < l .end) × (l .end ≤ length (l .text)) × (l .end ≤ l .at + l .most) × ((k : ℕ) → l .at ≤ k → k < l .end → Digit (getD (l .text) k 0))
 
 abbrev pub μ-loop-end : given.MeasureT-loop-end
 μ-loop-end l = length (l .text) - l .end

@@ -7,7 +7,7 @@ use Rattle.std.specs.Results.{isOk}
 use Rattle.std.specs.declared.result.Result.the-variants.{Ok, Err}
 use Rattle.bus.proofs.Refusing.{answer-passed, answer-refused}
 use Rattle.plan.specs.Held.{held}
-use Rattle.plan.specs.Plan.{enter-rules}
+use Rattle.plan.specs.Open.{enter-rules}
 use Rattle.table.proofs.table.enter_line.Needs as need
 
 pub returns-in-Ok-enter : need.returns-in-Ok-enter

@@ -13,7 +13,7 @@ use Rattle.bus.specs.Refused.{answer}
 use Rattle.bus.proofs.Refusing.{answer-passed, answer-refused}
 use Rattle.plan.specs.Cycle.{cycle-of}
 use Rattle.plan.specs.Held.{held}
-use Rattle.plan.specs.Plan.{enter-rules}
+use Rattle.plan.specs.Open.{enter-rules}
 use Rattle.plan.proofs.Limited.{fits}
 use Rattle.plan.proofs.Kept.{Kept, entered-kept, streams-few, least-cycles}
 use Rattle.plan.proofs.Judged.{Accepted, accepted-by}

@@ -6,7 +6,7 @@ use Rattle.std.specs.declared.result.Result.the-variants.{Ok, Err}
 use Rattle.std.proofs.shelf.Results.{err-from-errBy}
 use Rattle.plan.specs.Record.{within}
 use Rattle.plan.specs.Held.{held}
-use Rattle.plan.specs.Plan.{holds}
+use Rattle.plan.specs.Open.{holds}
 use Rattle.plan.proofs.Limited.{fits}
 use Rattle.plan.proofs.Kept.{short-entered}
 use Rattle.plan.proofs.Judged.{refused-limits, refused-held, refused-full, refused-cycle, accepted}

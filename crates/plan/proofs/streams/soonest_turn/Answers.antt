@@ -5,7 +5,7 @@ use Rattle.std.proofs.shelf.Lists.{take-all}
 use Rattle.clock.specs.Timing.{Paced}
 use Rattle.plan.specs.Streams.{silent, Soonest}
 use Rattle.plan.proofs.Turned.{soonest-more}
-use Rattle.plan.proofs.stream.soonest_turn.Needs as need
+use Rattle.plan.proofs.streams.soonest_turn.Needs as need
 
 pub sooner-requires : need.sooner-requires
 sooner-requires c κs = record {

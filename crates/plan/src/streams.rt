@@ -61,13 +61,13 @@ pub(crate) fn push_streams(streams: &mut Vec<Stream>, message: Record)
             offset,
             gap,
         } => {
-            let timing = Timing::Timed {
+            let timed = Timing::Timed {
                 period: period as u32,
                 offset: offset as u32,
             };
-            streams.push_reserved(stream_of(message, timing));
-            let timing = Timing::Event { gap: gap as u32 };
-            streams.push_reserved(stream_of(message, timing));
+            let event = Timing::Event { gap: gap as u32 };
+            streams.push_reserved(stream_of(message, timed));
+            streams.push_reserved(stream_of(message, event));
         }
     }
 }

@@ -1,9 +1,9 @@
 use mathlib.Core.Path.{_≡_, sym, _∙_}
 use native.Mathlib.Omega.{arith}
 use Rattle.std.proofs.shelf.Lists.{at-drop-all}
-use Rattle.plan.specs.Plan.{holds}
+use Rattle.plan.specs.Open.{holds}
 use Rattle.plan.proofs.Places.{holds-drop-here, holds-drop-past}
-use Rattle.plan.proofs.held.holds.Needs as need
+use Rattle.plan.proofs.open.calls.holds.Needs as need
 
 pub returns-then-message-identifier : need.returns-then-message-identifier
 returns-then-message-identifier c =

@@ -2,7 +2,7 @@ use mathlib.Core.Path.{_≡_, ap, _∙_}
 use mathlib.Core.List.{[], _∷_, _++_}
 use Rattle.std.proofs.shelf.Lists.{append-assoc}
 use Rattle.plan.specs.Streams.{parts}
-use Rattle.plan.proofs.stream.push_streams.Needs as need
+use Rattle.plan.proofs.streams.push_streams.Needs as need
 
 pub returns-in-Mixed : need.returns-in-Mixed
 returns-in-Mixed c = record {
