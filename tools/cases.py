@@ -255,6 +255,7 @@ def main():
     for file in DATA.glob("*.table"):
         if file.stem not in made:
             file.unlink()
+    (DATA / "index").write_text("".join(f"{name}\n" for name in sorted(made)))
     wrong = 0
     for name, (text, known) in sorted(made.items()):
         content = text.encode("latin-1")
