@@ -52,6 +52,7 @@ pub record Reports-below (limit : ℕ) (records : List Record) (text : List ℕ)
   pub told : (k : ℕ) → k < length lines → Verdict-of records (line-at lines k .identifier) (line-at lines k .verdict)
   pub whole : (message : Record) → Among records message → message .identifier < limit → Listed lines (message .identifier)
 
--- for all messages
-abbrev pub Reports : List Record → List ℕ → Type 0
-Reports records text = Reports-below 2048 records text
+-- and there is no other message
+pub record Reports (records : List Record) (text : List ℕ) : Type 0 where
+  pub lines : Reports-below 2048 records text
+  pub all : (message : Record) → Among records message → message .identifier < 2048

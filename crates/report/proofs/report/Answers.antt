@@ -1,7 +1,13 @@
-use Prim.Native.Nat.{ℕ, _+_}
+use Prim.Native.Nat.{ℕ, _+_, _≤_}
 use mathlib.Core.Path.{_≡_, sym, ap, subst, _∙_}
 use mathlib.Core.List.{List, _++_}
+use native.Mathlib.Omega.{arith}
 use Rattle.std.specs.Of.String.{string-bytes}
+use Rattle.plan.specs.declared.record.Record.{Record}
+use Rattle.plan.specs.Held.{held, record-at}
+use Rattle.plan.proofs.Limited.{fits}
+use Rattle.plan.proofs.Plans.{sound}
+use Rattle.settled.proofs.Sending.{within-at}
 use Rattle.settled.specs.Holding.{holding, Verdict-of}
 use Rattle.report.specs.Report.{row-text, Reports-below}
 use Rattle.report.proofs.Lining.{reports-none, reports-past, reports-more}
@@ -24,3 +30,15 @@ loop-identifier-again c =
       | in-Err w ↦
           subst (Reports-below (n + 1) records) (sym (ap string-bytes (w .text-is))) (reports-past records n (string-bytes (c .loop-identifier .text)) (w .in-Err .ensures tt .1) (c .loop-identifier .inv))
     ]
+
+pub returns : need.returns
+returns c =
+    let plan = c .args .plan .now .plan in
+    let last : c .loop-identifier .identifier ≡ 2048 = omega arith in
+    record {
+      lines = subst (λ (n : ℕ). Reports-below n (holding (c .args .plan .now)) (string-bytes (c .loop-identifier .text))) last (c .loop-identifier .inv);
+      all = λ message among.
+          let fit : record-at (held plan) (among .place) .identifier ≤ 2047 = fits (record-at (held plan) (among .place)) (within-at (held plan) (sound plan .within) (among .place) (among .inside)) .identifier in
+          let is = ap (λ (r : Record). r .identifier) (among .is) in
+          omega arith;
+    }
