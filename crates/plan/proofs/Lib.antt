@@ -1,6 +1,8 @@
 pub mod Limited
-pub mod Places
 pub mod Kept
+pub mod Places
+pub mod Walked
+pub mod Changed
 pub mod Judged
 pub mod Plans
 pub mod Carried

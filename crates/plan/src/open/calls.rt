@@ -5,9 +5,10 @@ ghost use lib.ListN.{length};
 ghost use Rattle.std.specs.Vec.{made};
 ghost use Rattle.bus.specs.Refused.{answer, Done};
 ghost use Rattle.plan.specs.Cycle.{cycle-of, Least-cycles};
-ghost use Rattle.plan.specs.Held.{held, Message-asked};
+ghost use Rattle.plan.specs.Held.{held, Message-asked, Position-asked};
 ghost use Rattle.plan.specs.Open.{holds, enter-rules};
 use super::OpenPlan;
+use crate::cycle::LONGEST_CYCLE;
 use crate::cycle::cycle_with;
 use crate::record::Record;
 use crate::streams::push_streams;
@@ -19,17 +20,25 @@ const MOST_RECORDS: usize = 64;
 
 const MOST_STREAMS: usize = 128;
 
-const LONGEST_CYCLE: u64 = 4194304;
+// Where the message with the identifier stands.
+pub(super) fn position(records: &[Record], identifier: u64) -> Option<usize>
+    ensures { λ r. ⌜ Position-asked identifier (now (records .entry)) r ⌝ }
+{
+    for (k, message) in records.iter().enumerate() {
+        if message.identifier == identifier {
+            return Some(k);
+        }
+    }
+    None
+}
 
 fn holds(records: &[Record], identifier: u64) -> bool
     ensures { λ r. ⌜ r ≡ holds identifier (now (records .entry)) ⌝ }
 {
-    for message in records {
-        if message.identifier == identifier {
-            return true;
-        }
+    match position(records, identifier) {
+        Some(_) => true,
+        None => false,
     }
-    false
 }
 
 impl OpenPlan {
