@@ -70,24 +70,24 @@ module _ (rs : List Record) (r : Record) where
 
 -- ---- a message in the place of another, or none
 
-module _ (rs : List Record) (r : Record) (v : ℕ) where
-  -- the rules past the record's own limits
-  abbrev of-altered : Rules
-  of-altered = (not (holds (r .identifier) rs), NotHeld) ∷ (too-long (altered r rs), Cycle) ∷ []
+-- the rules past the record's own limits
+abbrev pub of-altered : List Record → Record → Rules
+of-altered rs r = (not (holds (r .identifier) rs), NotHeld) ∷ (too-long (altered r rs), Cycle) ∷ []
 
+module _ (rs : List Record) (r : Record) (v : ℕ) where
   pub alter-refused-limits : (e : Refusal) → answer (limits r) (tt {0}) ≡ Err e → answer (alter-rules r rs) v ≡ Err e
   unfolding alter-rules
-  alter-refused-limits e h = answer-stays (limits r) of-altered v e h
+  alter-refused-limits e h = answer-stays (limits r) (of-altered rs r) v e h
 
   module _ (good : within r ≡ true) where
     pub alter-refused-held : holds (r .identifier) rs ≡ false → answer (alter-rules r rs) v ≡ Err NotHeld
     unfolding alter-rules
-    alter-refused-held none = answer-past (limits r) of-altered v good ∙ cond-true (not (holds (r .identifier) rs)) _ _ (not-from-false _ none)
+    alter-refused-held none = answer-past (limits r) (of-altered rs r) v good ∙ cond-true (not (holds (r .identifier) rs)) _ _ (not-from-false _ none)
 
     module _ (found : holds (r .identifier) rs ≡ true) where
       to-altered : answer (alter-rules r rs) v ≡ answer ((too-long (altered r rs), Cycle) ∷ []) v
       unfolding alter-rules
-      to-altered = answer-past (limits r) of-altered v good ∙ cond-false (not (holds (r .identifier) rs)) _ _ (not-from-true _ found)
+      to-altered = answer-past (limits r) (of-altered rs r) v good ∙ cond-false (not (holds (r .identifier) rs)) _ _ (not-from-true _ found)
 
       pub alter-refused-cycle : too-long (altered r rs) ≡ true → answer (alter-rules r rs) v ≡ Err Cycle
       alter-refused-cycle long = to-altered ∙ cond-true (too-long (altered r rs)) _ _ long

@@ -8,3 +8,4 @@ pub mod Plans
 pub mod Carried
 pub mod Turned
 pub mod Found
+pub mod Stepping

@@ -20,7 +20,7 @@ use Rattle.plan.proofs.Kept.{periods-some, cycle-here, cycle-elsewhere}
 
 -- ---- fewer messages have no longer a cycle
 
-all-parts : {A : Type 0} (P : A → Type 0) (xs ys : List A) → All P (xs ++ ys) → All P xs × All P ys
+pub all-parts : {A : Type 0} (P : A → Type 0) (xs ys : List A) → All P (xs ++ ys) → All P xs × All P ys
 all-parts P [] ys h = (tt, h)
 all-parts P (x ∷ xs) ys h = let rest = all-parts P xs ys (h .1) in ((h .0, rest .0), rest .1)
 

@@ -3,7 +3,9 @@ ghost use mathlib.Core.List.{[], _∷_, _++_};
 ghost use mathlib.Core.Path.{_≡_};
 ghost use lib.ListN.{length};
 ghost use Rattle.std.specs.Vec.{made};
+ghost use Rattle.std.specs.declared.option.Option.the-variants.{Some};
 ghost use Rattle.bus.specs.Refused.{answer, Done};
+ghost use Rattle.plan.specs.Book.{Step, Enter, open-book};
 ghost use Rattle.plan.specs.Cycle.{cycle-of, Least-cycles};
 ghost use Rattle.plan.specs.Held.{held, Message-asked, Position-asked};
 ghost use Rattle.plan.specs.Open.{holds, enter-rules};
@@ -91,6 +93,7 @@ impl OpenPlan {
     // Takes a message in, after all others, and says how many are held then.
     pub fn enter(&mut self, message: Record) -> Result<usize, Refusal>
         ensures entered { λ r. ⌜ Done (enter-rules message (held (now (self .entry)))) (held (now (self .entry))) (held (now (self .entry)) ++ message ∷ []) r (held (now (self .exit))) ⌝ }
+        ensures step { λ r. ⌜ Step (open-book (held (now (self .entry)))) (Enter message) (Some r) (open-book (held (now (self .exit)))) ⌝ }
         ensures cycles { λ _. ⌜ Least-cycles ⌝ }
     {
         let cycle = self.judge(message)?;

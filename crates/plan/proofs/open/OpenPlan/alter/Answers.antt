@@ -20,6 +20,7 @@ use Rattle.plan.proofs.Judged.{alter-refused-limits, alter-refused-held, alter
 use Rattle.plan.proofs.Kept.{Sound, Kept}
 use Rattle.plan.proofs.Places.{held-at}
 use Rattle.plan.proofs.Plans.{sound, kept}
+use Rattle.plan.proofs.Stepping.{alter-steps}
 use Rattle.plan.proofs.open.OpenPlan.alter.Needs as need
 use Rattle.plan.proofs.open.OpenPlan.alter.Needs.{In-Some, In-rest-cycles-of}
 
@@ -47,14 +48,16 @@ returns-in-Break-check c =
     let p = err-from-errBy (c .from-residual .result) (c .from-residual .ensures .1) in
     let rs = held (c .args .self .now) in
     let refused = alter-refused-limits rs (c .args .message) (length (altered (c .args .message) rs)) (p .0) (sym (c .in-Break-check .ensures tt) ∙ ap Err (sym (p .2))) in
-    done-refused (alter-rules (c .args .message) rs) rs (altered (c .args .message) rs) (c .from-residual .result) (p .0) rs refused (p .1) refl
+    let done = done-refused (alter-rules (c .args .message) rs) rs (altered (c .args .message) rs) (c .from-residual .result) (p .0) rs refused (p .1) refl in
+    record { done = done; step = alter-steps rs rs (c .from-residual .result) (c .args .message) done }
 
 pub returns-in-rest : need.returns-in-rest
 returns-in-rest c =
     let rs = held (c .args .self .now) in
     let fit : within (c .args .message) ≡ true = sym (ap isOk (c .in-Continue-check .ensures tt)) in
     let none : holds (c .args .message .identifier) rs ≡ false = subst (λ (x : List Record). holds (c .args .message .identifier) x ≡ false) (c .deref .ensures .value) (c .in-rest .ensures tt) in
-    done-refused (alter-rules (c .args .message) rs) rs (altered (c .args .message) rs) _ NotHeld rs (alter-refused-held rs (c .args .message) _ fit none) refl refl
+    let done = done-refused (alter-rules (c .args .message) rs) rs (altered (c .args .message) rs) (Err NotHeld) NotHeld rs (alter-refused-held rs (c .args .message) _ fit none) refl refl in
+    record { done = done; step = alter-steps rs rs (Err NotHeld) (c .args .message) done }
 
 pub cycles-of-requires : need.cycles-of-requires
 cycles-of-requires c κs = subst (λ (rs : List Record). all-within rs ≡ true) (sym (c .deref-2 .ensures .value)) (new-within (need.at·cycles-of-requires c .In-Some))
@@ -88,7 +91,9 @@ returns-in-rest-cycles-of c =
     let r = c .args .message in
     let h = need.at·returns-in-rest-cycles-of c .In-Some in
     let long : too-long (altered r rs) ≡ true = subst (λ (x : List Record). too-long x ≡ true) (c .deref-2 .ensures .value ∙ new-is h) (c .in-rest-cycles-of .ensures tt) in
-    done-refused (alter-rules r rs) rs (altered r rs) _ Cycle _ (alter-refused-cycle rs r _ (good h) (found h) long) refl (restored (need.at·returns-in-rest-cycles-of c .In-rest-cycles-of))
+    let left = set (set rs (c .in-Some .at) r) (c .in-Some .at) (c .index-former .result .now) in
+    let done = done-refused (alter-rules r rs) rs (altered r rs) (Err Cycle) Cycle left (alter-refused-cycle rs r _ (good h) (found h) long) refl (restored (need.at·returns-in-rest-cycles-of c .In-rest-cycles-of)) in
+    record { done = done; step = alter-steps rs left (Err Cycle) r done }
 
 pub ghost-self-2 : need.ghost-self-2
 ghost-self-2 c =
@@ -105,4 +110,5 @@ returns c =
     let r = c .args .message in
     let h = need.at·returns c .In-Some in
     let short : too-long (altered r rs) ≡ false = subst (λ (x : List Record). too-long x ≡ false) (c .deref-2 .ensures .value ∙ new-is h) (c .in-Some-cycles-of .ensures tt .1) in
-    done-made (alter-rules r rs) rs (altered r rs) (c .len .result) (new h) (alter-accepted rs r _ (good h) (found h) short) (c .len .ensures) (new-is h)
+    let done = done-made (alter-rules r rs) rs (altered r rs) (c .len .result) (new h) (alter-accepted rs r _ (good h) (found h) short) (c .len .ensures) (new-is h) in
+    record { done = done; step = alter-steps rs (new h) (Ok (c .len .result)) r done }

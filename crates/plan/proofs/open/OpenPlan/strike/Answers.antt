@@ -1,4 +1,4 @@
-use Prim.Native.Nat.{ℕ, _≤_}
+use Prim.Native.Nat.{ℕ, _-_}
 use mathlib.Core.Path.{_≡_, refl, sym, ap, subst, _∙_}
 use mathlib.Core.Bool.{true, false}
 use mathlib.Core.List.{List}
@@ -10,6 +10,7 @@ use Rattle.std.specs.declared.option.Option.{Option}
 use Rattle.std.specs.declared.option.Option.the-variants.{Some, None}
 use Rattle.std.proofs.shelf.Edits.{length-removed}
 use Rattle.std.proofs.shelf.Tests.{both-ways}
+use Rattle.std.specs.declared.result.Result.the-variants.{Ok, Err}
 use Rattle.bus.specs.declared.refusal.Refusal.the-variants.{NotHeld}
 use Rattle.plan.specs.declared.record.Record.{Record}
 use Rattle.plan.specs.Cycle.{all-within, cycle-of}
@@ -21,6 +22,7 @@ use Rattle.plan.proofs.Judged.{strike-refused, strike-accepted, done-refused, 
 use Rattle.plan.proofs.Kept.{Sound}
 use Rattle.plan.proofs.Places.{held-at}
 use Rattle.plan.proofs.Plans.{sound}
+use Rattle.plan.proofs.Stepping.{strike-steps}
 use Rattle.plan.proofs.open.OpenPlan.strike.Needs as need
 use Rattle.plan.proofs.open.OpenPlan.strike.Needs.{In-Some}
 
@@ -40,7 +42,8 @@ pub returns-in-rest : need.returns-in-rest
 returns-in-rest c =
     let rs = held (c .args .self .now) in
     let none : holds (c .args .identifier) rs ≡ false = subst (λ (x : List Record). holds (c .args .identifier) x ≡ false) (c .deref .ensures .value) (c .in-rest .ensures tt) in
-    done-refused (strike-rules (c .args .identifier) rs) rs (struck (c .args .identifier) rs) _ NotHeld rs (strike-refused rs (c .args .identifier) _ none) refl refl
+    let done = done-refused (strike-rules (c .args .identifier) rs) rs (struck (c .args .identifier) rs) (Err NotHeld) NotHeld rs (strike-refused rs (c .args .identifier) _ none) refl refl in
+    record { done = done; step = strike-steps rs rs (Err NotHeld) (c .args .identifier) done }
 
 pub cycles-of-requires : need.cycles-of-requires
 cycles-of-requires c κs =
@@ -74,4 +77,7 @@ returns c =
     let at = stands (need.at·returns c .In-Some) in
     let is = c .remove .ensures .items ∙ struck-is (c .args .identifier) rs (c .in-Some .at) at in
     let found = held-at (c .args .identifier) rs (c .in-Some .at) (at .inside) (at .named) in
-    done-made (strike-rules (c .args .identifier) rs) rs (struck (c .args .identifier) rs) _ (c .remove .last .self .items) (strike-accepted rs (c .args .identifier) _ found) (omega (arith, c .len-held .ensures, c .args .self .now .records .ok .0, ap length (c .remove .ensures .items), length-removed rs (c .in-Some .at) (at .inside))) is
+    let left = c .remove .last .self .items in
+    let fewer : c .len-held .result - 1 ≡ length left = omega (arith, c .len-held .ensures, ap length (c .remove .ensures .items), length-removed rs (c .in-Some .at) (at .inside)) in
+    let done = done-made (strike-rules (c .args .identifier) rs) rs (struck (c .args .identifier) rs) (c .len-held .result - 1) left (strike-accepted rs (c .args .identifier) _ found) fewer is in
+    record { done = done; step = strike-steps rs left (Ok (c .len-held .result - 1)) (c .args .identifier) done }
