@@ -5,7 +5,7 @@ ghost use lib.ListN.{length};
 ghost use Rattle.std.specs.Vec.{made};
 ghost use Rattle.std.specs.declared.option.Option.the-variants.{Some};
 ghost use Rattle.bus.specs.Refused.{answer, Done};
-ghost use Rattle.plan.specs.Book.{Step, Enter, open-book};
+ghost use Rattle.plan.specs.Book.{Step, Enter, open-book, first-book};
 ghost use Rattle.plan.specs.Cycle.{cycle-of, Least-cycles};
 ghost use Rattle.plan.specs.Held.{held, Message-asked, Position-asked};
 ghost use Rattle.plan.specs.Open.{holds, enter-rules};
@@ -46,7 +46,8 @@ fn holds(records: &[Record], identifier: u64) -> bool
 impl OpenPlan {
     // A plan without messages. It takes all the memory that it will need.
     pub fn new(heap: Global) -> Result<OpenPlan, AllocError>
-        ensures { λ r. ⌜ made r (λ p. held p ≡ []) ⌝ }
+        ensures empty { λ r. ⌜ made r (λ p. held p ≡ []) ⌝ }
+        ensures first { λ r. ⌜ made r (λ p. open-book (held p) ≡ first-book) ⌝ }
     {
         let records = Vec::with_capacity(heap, MOST_RECORDS)?;
         let streams = Vec::with_capacity(heap, MOST_STREAMS)?;
