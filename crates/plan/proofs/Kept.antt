@@ -1,5 +1,5 @@
 -- The records stay sound, and what stands beside them in step, as a message is entered. Assumes nothing.
-use Prim.Native.Nat.{ℕ, _+_, _*_, _≤_, _<_, max}
+use Prim.Native.Nat.{ℕ, zero, suc, _+_, _*_, _≤_, _<_, max}
 use mathlib.Core.Path.{_≡_, refl, sym, ap, subst, _∙_}
 use mathlib.Core.Bool.{Bool, true, false, cond, not, _&&_, _||_}
 use mathlib.Core.List.{List, [], _∷_, _++_}
@@ -25,6 +25,7 @@ use Rattle.plan.specs.declared.streams.Stream.{Stream}
 use Rattle.plan.specs.Record.{within, interval, intervals}
 use Rattle.plan.specs.Cycle.{all-within, periods-in, periods-at, periods, cycle-of, Least-cycles}
 use Rattle.plan.specs.Open.{holds, apart, too-long}
+use Rattle.plan.specs.Held.{record-at}
 use Rattle.plan.specs.Streams.{parts, streams-of, reach-of}
 use Rattle.plan.proofs.Limited.{interval-some, fits}
 
@@ -41,6 +42,11 @@ pub record Kept (records : List Record) (streams : List Stream) (cycles : List �
   pub carried : streams ≡ streams-of records
   pub cycled : (n : ℕ) → n < 16 → getD cycles n 0 ≡ cycle-of n records
   pub reached : reach ≡ reach-of records
+
+pub within-at : (records : List Record) → all-within records ≡ true → (k : ℕ) → k < length records → within (record-at records k) ≡ true
+within-at [] all k l = absurd (omega arith)
+within-at (r ∷ records) all zero l = and-parts (within r) (all-within records) all .0
+within-at (r ∷ records) all (suc k) l = within-at records (and-parts (within r) (all-within records) all .1) k (omega arith)
 
 -- ---- cycles
 
@@ -79,7 +85,7 @@ module _ (rs : List Record) (r : Record) where
   cycle-here = cycle-push (r .node) ∙ ap (folded lcm (cycle-of (r .node) rs)) (cond-true (eqb (r .node) (r .node)) (periods-in (r .kind)) [] (eq-eqb (r .node) (r .node) refl))
 
   -- and at no other
-  cycle-elsewhere : (n : ℕ) → (r .node ≡ n → ⊥) → cycle-of n (rs ++ r ∷ []) ≡ cycle-of n rs
+  pub cycle-elsewhere : (n : ℕ) → (r .node ≡ n → ⊥) → cycle-of n (rs ++ r ∷ []) ≡ cycle-of n rs
   cycle-elsewhere n other = cycle-push n ∙ ap (folded lcm (cycle-of n rs)) (cond-false (eqb (r .node) n) (periods-in (r .kind)) [] (ne-eqb (r .node) n other))
 
 pub long-at : (rs : List Record) (n : ℕ) → n < 16 → 4194304 < cycle-of n rs → too-long rs ≡ true
@@ -90,7 +96,7 @@ pub short-at : (rs : List Record) (n : ℕ) → too-long rs ≡ false → n < 16
 unfolding too-long
 short-at rs n short h = le-trans (largest-has 16 (λ k. cycle-of k rs) n h) (ltb-false 4194304 (largest-below 16 (λ k. cycle-of k rs)) short)
 
-short-nowhere : (rs : List Record) → ((n : ℕ) → n < 16 → cycle-of n rs ≤ 4194304) → too-long rs ≡ false
+pub short-nowhere : (rs : List Record) → ((n : ℕ) → n < 16 → cycle-of n rs ≤ 4194304) → too-long rs ≡ false
 unfolding too-long
 short-nowhere rs h = le-ltb 4194304 (largest-below 16 (λ k. cycle-of k rs)) (largest-at-most 16 4194304 (λ k. cycle-of k rs) h)
 
@@ -129,7 +135,7 @@ within-push (x ∷ rs) r h g =
     let both = and-parts (within x) (all-within rs) h in
     and-from (within x) (all-within (rs ++ r ∷ [])) (both .0) (within-push rs r (both .1) g)
 
-holds-push : (identifier : ℕ) (rs : List Record) (r : Record) → holds identifier rs ≡ false → (r .identifier ≡ identifier → ⊥) → holds identifier (rs ++ r ∷ []) ≡ false
+pub holds-push : (identifier : ℕ) (rs : List Record) (r : Record) → holds identifier rs ≡ false → (r .identifier ≡ identifier → ⊥) → holds identifier (rs ++ r ∷ []) ≡ false
 holds-push identifier [] r h other = or-from (eqb (r .identifier) identifier) false (ne-eqb (r .identifier) identifier other) refl
 holds-push identifier (x ∷ rs) r h other =
     let both = or-parts (eqb (x .identifier) identifier) (holds identifier rs) h in

@@ -1,10 +1,12 @@
 -- The cycle of a node: the least common multiple of its periods. Assumes nothing.
-use Prim.Native.Nat.{ℕ}
+use Prim.Native.Nat.{ℕ, _≤_, _<_}
 use mathlib.Core.Path.{_≡_}
 use mathlib.Core.Bool.{Bool, true, cond, _&&_}
 use mathlib.Core.List.{List, [], _∷_}
 use lib.Dec.{eqb}
 use Rattle.std.specs.Joined.{joined}
+use Rattle.std.specs.declared.option.Option.{Option}
+use Rattle.std.specs.declared.option.Option.the-variants.{Some, None}
 use Rattle.clock.specs.Multiple.{Least-common, lcm-of}
 use Rattle.plan.specs.declared.record.Kind.{Kind}
 use Rattle.plan.specs.declared.record.Kind.the-variants.{Periodic, Sporadic, Mixed}
@@ -28,6 +30,11 @@ periods n rs = joined (periods-at n) rs
 -- their least common multiple, 1 where there is none
 abbrev pub cycle-of : ℕ → List Record → ℕ
 cycle-of n rs = lcm-of (periods n rs)
+
+-- it is told unless it is above 4,194,304
+abbrev pub Cycle-asked : ℕ → List Record → Option ℕ → Type 0
+Cycle-asked n rs (Some cycle) = (cycle ≡ cycle-of n rs) × (cycle ≤ 4194304)
+Cycle-asked n rs None = 4194304 < cycle-of n rs
 
 abbrev pub all-within : List Record → Bool
 all-within [] = true

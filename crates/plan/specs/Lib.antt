@@ -3,3 +3,4 @@ pub mod Cycle
 pub mod Streams
 pub mod Open
 pub mod Held
+pub mod Book

@@ -1,4 +1,4 @@
-// A plan that is open: messages can be entered.
+// A plan that is open: messages can be entered, altered and struck.
 ghost use mathlib.Core.Bool.{true, false};
 ghost use mathlib.Core.Path.{_≡_};
 ghost use Prim.Native.Nat.{ℕ, _≤_, _<_};
@@ -11,6 +11,7 @@ use crate::record::Record;
 use crate::streams::Stream;
 
 pub mod calls;
+pub mod changes;
 pub mod traffic;
 
 // Beside the messages stands what questions need again and again: their streams, the cycle of each node and the reach.

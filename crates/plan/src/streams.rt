@@ -2,12 +2,14 @@
 ghost use mathlib.Core.Bool.{true};
 ghost use mathlib.Core.List.{[], _∷_, _++_};
 ghost use mathlib.Core.Path.{_≡_};
-ghost use Prim.Native.Nat.{_+_, _≤_};
+ghost use Prim.Native.Nat.{_+_, _*_, _≤_};
+ghost use lib.ListN.{length};
 ghost use Rattle.std.specs.Of.Vec.{vec-items, vec-len, vec-cap};
 ghost use Rattle.std.specs.shelf.Lists.{All};
 ghost use Rattle.clock.specs.Timing.{Paced};
+ghost use Rattle.plan.specs.Cycle.{all-within};
 ghost use Rattle.plan.specs.Record.{within};
-ghost use Rattle.plan.specs.Streams.{stream-of, parts, Soonest-found};
+ghost use Rattle.plan.specs.Streams.{stream-of, parts, streams-of, reach-of, Soonest-found};
 use crate::record::Kind;
 use crate::record::Record;
 use bus::frame;
@@ -70,6 +72,31 @@ pub(crate) fn push_streams(streams: &mut Vec<Stream>, message: Record)
             streams.push_reserved(stream_of(message, event));
         }
     }
+}
+
+// Lists the streams of the messages, in place of those that stood there.
+pub(crate) fn list_streams(streams: &mut Vec<Stream>, records: &[Record])
+    requires within { ⌜ all-within (now records) ≡ true ⌝ }
+    requires room { ⌜ 2 * length (now records) ≤ vec-cap (now streams) ⌝ }
+    ensures items { λ _. ⌜ vec-items (now (streams .exit)) ≡ streams-of (now (records .entry)) ⌝ }
+    ensures capacity { λ _. ⌜ vec-cap (now (streams .exit)) ≡ vec-cap (now (streams .entry)) ⌝ }
+{
+    streams.clear();
+    for message in records {
+        push_streams(streams, *message);
+    }
+}
+
+// The largest jitter, or 0.
+pub(crate) fn largest_jitter(records: &[Record]) -> u32
+    requires { ⌜ all-within (now records) ≡ true ⌝ }
+    ensures { λ r. ⌜ r ≡ reach-of (now (records .entry)) ⌝ }
+{
+    let mut largest: u32 = 0;
+    for message in records {
+        largest = largest.max(message.jitter as u32);
+    }
+    largest
 }
 
 impl Stream {

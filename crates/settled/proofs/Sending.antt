@@ -1,26 +1,17 @@
--- Every message held has a stream, and keeps its limits. Assumes nothing.
+-- Every message held has a stream. Assumes nothing.
 use Prim.Native.Nat.{ℕ, zero, suc, _+_, _<_}
 use mathlib.Core.Path.{_≡_, refl, ap, _∙_}
-use mathlib.Core.Bool.{true}
 use mathlib.Core.List.{List, [], _∷_, _++_}
 use native.Mathlib.Omega.{arith}
 use lib.ListN.{length, getD, length-append}
 use Rattle.std.proofs.shelf.Lists.{getD-append-add}
-use Rattle.std.proofs.shelf.Tests.{and-parts}
 use Rattle.plan.specs.declared.record.Kind.{Kind}
 use Rattle.plan.specs.declared.record.Kind.the-variants.{Periodic, Sporadic, Mixed}
 use Rattle.plan.specs.declared.record.Record.{Record}
 use Rattle.plan.specs.declared.streams.Stream.{Stream}
-use Rattle.plan.specs.Record.{within}
-use Rattle.plan.specs.Cycle.{all-within}
 use Rattle.plan.specs.Held.{record-at}
 use Rattle.plan.specs.Streams.{parts, silent, streams-of, traffic-of}
 use Rattle.verdict.specs.Judged.{Sends}
-
-pub within-at : (records : List Record) → all-within records ≡ true → (k : ℕ) → k < length records → within (record-at records k) ≡ true
-within-at [] all k l = absurd (omega arith)
-within-at (r ∷ records) all zero l = and-parts (within r) (all-within records) all .0
-within-at (r ∷ records) all (suc k) l = within-at records (and-parts (within r) (all-within records) all .1) k (omega arith)
 
 -- a message has a stream, and the first is its own
 first-sends : (r : Record) (kind : Kind) (rest : List Stream) → (0 < length (parts r kind ++ rest)) × (getD (parts r kind ++ rest) 0 silent .identifier ≡ r .identifier)

@@ -3,11 +3,14 @@ ghost use mathlib.Core.List.{[], _∷_, _++_};
 ghost use mathlib.Core.Path.{_≡_};
 ghost use lib.ListN.{length};
 ghost use Rattle.std.specs.Vec.{made};
+ghost use Rattle.std.specs.declared.option.Option.the-variants.{Some};
 ghost use Rattle.bus.specs.Refused.{answer, Done};
+ghost use Rattle.plan.specs.Book.{Step, Enter, open-book, first-book};
 ghost use Rattle.plan.specs.Cycle.{cycle-of, Least-cycles};
-ghost use Rattle.plan.specs.Held.{held, Message-asked};
+ghost use Rattle.plan.specs.Held.{held, Message-asked, Position-asked};
 ghost use Rattle.plan.specs.Open.{holds, enter-rules};
 use super::OpenPlan;
+use crate::cycle::LONGEST_CYCLE;
 use crate::cycle::cycle_with;
 use crate::record::Record;
 use crate::streams::push_streams;
@@ -19,23 +22,32 @@ const MOST_RECORDS: usize = 64;
 
 const MOST_STREAMS: usize = 128;
 
-const LONGEST_CYCLE: u64 = 4194304;
+// Where the message with the identifier stands.
+pub(super) fn position(records: &[Record], identifier: u64) -> Option<usize>
+    ensures { λ r. ⌜ Position-asked identifier (now (records .entry)) r ⌝ }
+{
+    for (k, message) in records.iter().enumerate() {
+        if message.identifier == identifier {
+            return Some(k);
+        }
+    }
+    None
+}
 
 fn holds(records: &[Record], identifier: u64) -> bool
     ensures { λ r. ⌜ r ≡ holds identifier (now (records .entry)) ⌝ }
 {
-    for message in records {
-        if message.identifier == identifier {
-            return true;
-        }
+    match position(records, identifier) {
+        Some(_) => true,
+        None => false,
     }
-    false
 }
 
 impl OpenPlan {
     // A plan without messages. It takes all the memory that it will need.
     pub fn new(heap: Global) -> Result<OpenPlan, AllocError>
-        ensures { λ r. ⌜ made r (λ p. held p ≡ []) ⌝ }
+        ensures empty { λ r. ⌜ made r (λ p. held p ≡ []) ⌝ }
+        ensures first { λ r. ⌜ made r (λ p. open-book (held p) ≡ first-book) ⌝ }
     {
         let records = Vec::with_capacity(heap, MOST_RECORDS)?;
         let streams = Vec::with_capacity(heap, MOST_STREAMS)?;
@@ -82,6 +94,7 @@ impl OpenPlan {
     // Takes a message in, after all others, and says how many are held then.
     pub fn enter(&mut self, message: Record) -> Result<usize, Refusal>
         ensures entered { λ r. ⌜ Done (enter-rules message (held (now (self .entry)))) (held (now (self .entry))) (held (now (self .entry)) ++ message ∷ []) r (held (now (self .exit))) ⌝ }
+        ensures step { λ r. ⌜ Step (open-book (held (now (self .entry)))) (Enter message) (Some r) (open-book (held (now (self .exit)))) ⌝ }
         ensures cycles { λ _. ⌜ Least-cycles ⌝ }
     {
         let cycle = self.judge(message)?;

@@ -3,6 +3,8 @@ ghost use mathlib.Core.Bool.{true};
 ghost use mathlib.Core.Path.{_≡_};
 ghost use Prim.Native.Nat.{ℕ, _<_};
 ghost use lib.ListN.{length};
+ghost use Rattle.std.specs.declared.option.Option.the-variants.{None};
+ghost use Rattle.plan.specs.Book.{Step, Settle, Reopen, open-book, settled-book};
 ghost use Rattle.plan.specs.Held.{held};
 ghost use Rattle.plan.specs.Record.{within};
 ghost use Rattle.plan.specs.Streams.{traffic-of};
@@ -38,7 +40,8 @@ fn work_out(plan: &OpenPlan, message: Record) -> Verdict
 
 // Works every message out.
 pub fn settle(plan: OpenPlan) -> SettledPlan
-    ensures { λ r. ⌜ holding r ≡ held plan ⌝ }
+    ensures holds { λ r. ⌜ holding r ≡ held plan ⌝ }
+    ensures step { λ r. ⌜ Step (open-book (held plan)) Settle None (settled-book (holding r)) ⌝ }
 {
     let mut verdicts = [Verdict::Unsettled; MOST_RECORDS];
     for k in 0..plan.len() {
@@ -52,7 +55,8 @@ pub fn settle(plan: OpenPlan) -> SettledPlan
 impl SettledPlan {
     // The open plan again, with its messages and without the figures.
     pub fn reopen(self) -> OpenPlan
-        ensures { λ r. ⌜ held r ≡ holding self ⌝ }
+        ensures holds { λ r. ⌜ held r ≡ holding self ⌝ }
+        ensures step { λ r. ⌜ Step (settled-book (holding self)) Reopen None (open-book (held r)) ⌝ }
     {
         let SettledPlan { plan, verdicts: _ } = self;
         plan

@@ -1,5 +1,4 @@
-use Prim.Native.Nat.{ℕ, _≤_, _<_}
-use mathlib.Core.Path.{_≡_, refl, sym, ap, subst, _∙_}
+use mathlib.Core.Path.{_≡_, refl, sym, ap, _∙_}
 use mathlib.Core.Bool.{true}
 use mathlib.Core.List.{[], _∷_, _++_}
 use native.Mathlib.Omega.{arith}
@@ -8,7 +7,6 @@ use lib.ListN.{length, set}
 use Rattle.std.specs.Results.{isOk}
 use Rattle.std.specs.declared.result.Result.the-variants.{Ok, Err}
 use Rattle.std.proofs.shelf.Results.{err-from-errBy}
-use Rattle.std.proofs.shelf.Lists.{length-push}
 use Rattle.bus.specs.Refused.{answer}
 use Rattle.bus.proofs.Refusing.{answer-passed, answer-refused}
 use Rattle.plan.specs.Cycle.{cycle-of}
@@ -16,8 +14,9 @@ use Rattle.plan.specs.Held.{held}
 use Rattle.plan.specs.Open.{enter-rules}
 use Rattle.plan.proofs.Limited.{fits}
 use Rattle.plan.proofs.Kept.{Kept, entered-kept, streams-few, least-cycles}
-use Rattle.plan.proofs.Judged.{Accepted, accepted-by}
+use Rattle.plan.proofs.Judged.{Accepted, accepted-by, done-refused, done-made}
 use Rattle.plan.proofs.Plans.{kept}
+use Rattle.plan.proofs.Stepping.{enter-steps}
 use Rattle.plan.proofs.open.OpenPlan.enter.Needs as need
 
 pub returns-in-Break-cycle : need.returns-in-Break-cycle
@@ -25,7 +24,8 @@ returns-in-Break-cycle c =
     let p = err-from-errBy (c .from-residual .result) (c .from-residual .ensures .1) in
     let rs = held (c .args .self .now) in
     let refused = answer-refused (enter-rules (c .args .message) rs) (cycle-of (c .args .message .node) (rs ++ c .args .message ∷ [])) (length (rs ++ c .args .message ∷ [])) (p .0) (sym (c .in-Break-cycle .ensures tt) ∙ ap Err (sym (p .2))) in
-    record { entered = record { answers = p .1 ∙ sym refused; leaves = rw (p .1) }; cycles = least-cycles }
+    let done = done-refused (enter-rules (c .args .message) rs) rs (rs ++ c .args .message ∷ []) (c .from-residual .result) (p .0) rs refused (p .1) refl in
+    record { entered = done; step = enter-steps rs rs (c .from-residual .result) (c .args .message) done; cycles = least-cycles }
 
 pub push-reserved-requires : need.push-reserved-requires
 push-reserved-requires c κs =
@@ -75,9 +75,7 @@ returns c =
     let r = c .args .message in
     let v = cycle-of (c .args .message .node) (held (c .args .self .now) ++ c .args .message ∷ []) in
     let told : Ok (c .in-Continue-cycle .cycle) ≡ answer (enter-rules r rs) v = c .in-Continue-cycle .ensures tt in
-    let n : ℕ = length (rs ++ r ∷ []) in
-    let is : c .len .result ≡ n = omega (arith, c .len .ensures, c .push-reserved .ensures .len, c .args .self .now .records .ok .0, length-push rs r) in
-    record {
-      entered = record { answers = ap Ok is ∙ sym (answer-passed (enter-rules r rs) v n (sym (ap isOk told))); leaves = c .push-reserved .ensures .items };
-      cycles = least-cycles;
-    }
+    let left = c .push-reserved .last .self .items in
+    let passed = answer-passed (enter-rules r rs) v (length (rs ++ r ∷ [])) (sym (ap isOk told)) in
+    let done = done-made (enter-rules r rs) rs (rs ++ r ∷ []) (c .len .result) left passed (c .len .ensures) (c .push-reserved .ensures .items) in
+    record { entered = done; step = enter-steps rs left (Ok (c .len .result)) r done; cycles = least-cycles }

@@ -6,8 +6,9 @@ use Rattle.plan.specs.Streams.{streams-of, traffic-of}
 use Rattle.verdict.specs.Judged.{Sends}
 use Rattle.plan.specs.Held.{held}
 use Rattle.plan.proofs.Limited.{Fits, fits}
+use Rattle.plan.proofs.Kept.{within-at}
 use Rattle.plan.proofs.Plans.{sound}
-use Rattle.settled.proofs.Sending.{within-at, sends-at}
+use Rattle.settled.proofs.Sending.{sends-at}
 use Rattle.settled.proofs.settled.calls.work_out.Needs as need
 use Rattle.settled.proofs.settled.calls.work_out.Needs.{Start}
 
