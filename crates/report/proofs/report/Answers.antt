@@ -7,7 +7,7 @@ use Rattle.plan.specs.declared.record.Record.{Record}
 use Rattle.plan.specs.Held.{held, record-at}
 use Rattle.plan.proofs.Limited.{fits}
 use Rattle.plan.proofs.Plans.{sound}
-use Rattle.settled.proofs.Sending.{within-at}
+use Rattle.plan.proofs.Kept.{within-at}
 use Rattle.settled.specs.Holding.{holding, Verdict-of}
 use Rattle.report.specs.Report.{row-text, Reports-below}
 use Rattle.report.proofs.Lining.{reports-none, reports-past, reports-more}
