@@ -9,6 +9,7 @@ mod tests {
     use plan::open::traffic::OpenPlanTraffic;
     use plan::record::Kind;
     use plan::record::Record;
+    use settled::settled::calls::settle;
     use std::alloc::AllocError;
     use std::alloc::Global;
     use std::test::*;
@@ -283,5 +284,71 @@ mod tests {
         let _ = events.enter(message(1, 1, Kind::Sporadic { gap: 110 }));
         let _ = events.enter(message(2, 2, Kind::Sporadic { gap: 5_000 }));
         check_eq(judge(&events, 2, 400), met(220))
+    }
+
+    #[test]
+    fn alter_and_the_cycle(rt: LibcRuntime) -> Result<(), Fail> {
+        let mut plan = OpenPlan::new(rt.alloc())?;
+        check_eq(plan.enter(message(1, 1, timed(LONGEST, 0))), Ok(1))?;
+        check_eq(plan.enter(message(2, 1, timed(4, 0))), Ok(2))?;
+        check_eq(
+            plan.alter(message(3, 1, timed(4, 0))),
+            Err(Refusal::NotHeld),
+        )?;
+        check_eq(plan.alter(message(2, 1, timed(5, 0))), Err(Refusal::Cycle))?;
+        check_eq(plan.cycle(1), Ok(1_048_576))?;
+        check_eq(plan.alter(message(2, 2, timed(5, 0))), Ok(2))?;
+        check_eq(plan.cycle(1), Ok(1_048_576))?;
+        check_eq(plan.cycle(2), Ok(5))?;
+        check_eq(plan.alter(message(1, 2, timed(7, 0))), Ok(2))?;
+        check_eq(plan.cycle(1), Ok(1))?;
+        check_eq(plan.cycle(2), Ok(35))?;
+        check_eq(plan.identifier(0), Ok(1))
+    }
+
+    #[test]
+    fn strike_first_last_and_only(rt: LibcRuntime) -> Result<(), Fail> {
+        let mut plan = three_messages(rt.alloc())?;
+        check_eq(plan.strike(10), Ok(2))?;
+        check_eq(plan.cycle(1), Ok(600))?;
+        check_eq(plan.identifier(0), Ok(20))?;
+        check_eq(plan.strike(10), Err(Refusal::NotHeld))?;
+        check_eq(plan.strike(30), Ok(1))?;
+        check_eq(plan.streams(), 2)?;
+        check_eq(plan.reach(), 450)?;
+        check_eq(plan.strike(20), Ok(0))?;
+        check_eq(plan.streams(), 0)?;
+        check_eq(plan.reach(), 0)?;
+        check_eq(plan.cycle(1), Ok(1))
+    }
+
+    #[test]
+    fn room_after_a_strike(rt: LibcRuntime) -> Result<(), Fail> {
+        let mut plan = OpenPlan::new(rt.alloc())?;
+        for identifier in 0..64 {
+            let _ = plan.enter(message(identifier, 1, Kind::Sporadic { gap: 9_000 }));
+        }
+        let more = message(64, 1, Kind::Sporadic { gap: 9_000 });
+        check_eq(plan.enter(more), Err(Refusal::Full))?;
+        check_eq(plan.strike(31), Ok(63))?;
+        check_eq(plan.enter(more), Ok(64))?;
+        check_eq(plan.identifier(63), Ok(64))
+    }
+
+    #[test]
+    fn figures_of_the_records_then(rt: LibcRuntime) -> Result<(), Fail> {
+        let empty = settle(OpenPlan::new(rt.alloc())?);
+        check_eq(empty.verdict(10), Err(Refusal::NotHeld))?;
+        let mut plan = empty.reopen();
+        check_eq(plan.enter(message(10, 1, timed(400, 0))), Ok(1))?;
+        let first = settle(plan);
+        check_eq(first.verdict(10), met(110))?;
+        let mut again = first.reopen();
+        let mut longer = message(10, 1, timed(400, 0));
+        longer.bytes = 8;
+        check_eq(again.alter(longer), Ok(1))?;
+        let second = settle(again);
+        check_eq(second.verdict(10), met(270))?;
+        check(second.row(1).is_err())
     }
 }
