@@ -1,14 +1,13 @@
 -- What an answer tells of its question. Assumes nothing.
 use Prim.Native.Nat.{ℕ, _<_}
-use mathlib.Core.Path.{_≡_, refl, ap}
+use mathlib.Core.Path.{_≡_, ap}
 use mathlib.Core.Logic.{_⊎_, inl, inr, ⊎-elim}
 use native.Mathlib.Omega.{arith}
 use Rattle.std.specs.declared.result.Result.{Result}
 use Rattle.std.specs.declared.result.Result.the-variants.{Ok, Err}
 use Rattle.std.proofs.shelf.Tests.{cases-lt}
 use Rattle.bus.specs.declared.refusal.Refusal.{Refusal}
-use Rattle.bus.specs.Meaning.{Meaning}
-use Rattle.bus.specs.Asked.{Asked, Stream-asked}
+use Rattle.bus.specs.Asked.{Asked}
 
 never : {A B : Type 0} (x : A) (e : B) {r : Result A B} → r ≡ Ok x → r ≡ Err e → ⊥
 never x e p q = let z : _≡_ {A = ℕ} 0 1 = cc in omega arith
@@ -23,6 +22,3 @@ answer f same = record { answered = λ _. ap Ok same; refused = λ none. absurd 
 
 pub below-or-not : (a b : ℕ) → (a < b) ⊎ (a < b → ⊥)
 below-or-not a b = ⊎-elim inl (λ h. inr (λ l. omega arith)) (cases-lt a b)
-
-pub stream-in : (m : Meaning) (f : ℕ → ℕ) (i x : ℕ) → Stream-asked m f i (Ok x) → (i < m .streams) × (x ≡ f i)
-stream-in m f i x a = within (below-or-not i (m .streams)) a refl

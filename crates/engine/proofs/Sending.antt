@@ -22,12 +22,6 @@ module _ (m : Meaning) (g : Group) (members : Members m g) where
   front-at-most limits n p w h fits =
       sum-at-most n 4194304200 _ (λ a l. load-at-most m limits (member g a) p w (members .known a (omega arith)) fits)
 
-  pub sent-at-most : Limits m → (p w : ℕ) → w + m .reach ≤ 20971520 → sent m g p w ≤ 536870937600
-  sent-at-most limits p w fits = omega (arith, front-at-most limits (g .len) p w (omega arith) fits, members .few)
-
-  pub heaviest-at-most : Limits m → (w : ℕ) → w + m .reach ≤ 20971520 → heaviest-sent m g w ≤ 536870937600
-  heaviest-at-most limits w fits = largest-at-most (m .cycle (g .node)) 536870937600 _ (λ p _. sent-at-most limits p w fits)
-
   pub heaviest-none : (w : ℕ) → g .len ≡ 0 → heaviest-sent m g w ≡ 0
   heaviest-none w none =
       let nothing : (p : ℕ) → sent m g p w ≤ 0 = λ p. rw none (omega arith) in
