@@ -1,5 +1,5 @@
 -- Counts and loads fit, and grow with the window. Assumes nothing.
-use Rattle.std.proofs.Common.{◌≡◌, ℕ, ◌+◌, ◌-◌, ◌*◌, ◌<◌, ◌≤◌, Bool, not, eqb, leb, pos, mul-le-mul, arith}
+use Rattle.std.proofs.Common.{ℕ, ◌+◌, ◌-◌, ◌*◌, ◌<◌, ◌≤◌, Bool, not, eqb, leb, pos, mul-le-mul, arith}
 use lib.Signed.{le_z}
 use Rattle.bus.specs.Sums.{sum_below, only}
 use Rattle.bus.specs.Meaning.{Meaning, Limits, count}

@@ -1,5 +1,5 @@
 -- Every phase has its places no nearer than the first turning phase from it on, or than phase 0. Assumes nothing.
-use Rattle.std.proofs.Common.{◌≡◌, ℕ, zero, suc, ◌+◌, ◌-◌, ◌%◌, ◌<◌, ◌≤◌, false, ◌≤ℤ◌, Some, None, refl, mod-eq_of_lt, arith}
+use Rattle.std.proofs.Common.{◌≡◌, ℕ, zero, suc, ◌+◌, ◌-◌, ◌<◌, ◌≤◌, false, ◌≤ℤ◌, Some, None, mod-eq_of_lt, arith}
 use native.Mathlib.Nat.{mod_self}
 use lib.Signed.{≤ℤ_refl}
 use Rattle.std.proofs.lemmas.Int.{ints}

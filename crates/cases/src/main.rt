@@ -1,4 +1,6 @@
 // Prints the name and the report of each table that the file index names.
+#![tactic(auto)]
+
 use std::{fs, io};
 use table::answer::answer;
 

@@ -1,2 +1,4 @@
 // A traffic whose nodes queue later than those of another.
+#![tactic(auto)]
+
 pub mod delayed;

@@ -1,4 +1,6 @@
 // Bounds on how long the instances of a stream can wait, for any traffic.
+#![tactic(auto)]
+
 pub mod bound;
 mod demand;
 mod group;

@@ -1,4 +1,6 @@
 // Notes some measured senders, and prints each answer, some places, and the bound of every stream.
+#![tactic(auto)]
+
 use bus::traffic::Traffic;
 use engine::bound::{Outcome, bound};
 use sheet::sender::Sender;

@@ -1,4 +1,6 @@
 // Tests of open plans and of verdicts: the worked examples, and both edges of every limit.
+#![tactic(auto)]
+
 #[cfg(test)]
 mod tests {
     use bus::refusal::Refusal;

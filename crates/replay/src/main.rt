@@ -1,4 +1,6 @@
 // Reads calls from standard input, one a line, works them on a plan that is empty at first, and prints the answer to each.
+#![tactic(auto)]
+
 use script::answers::play;
 use std::io;
 use std::io::Read;

@@ -1,4 +1,6 @@
 // What the messages of a plan declare of the runs of its bus.
+#![tactic(auto)]
+
 ghost use Rattle.plan.specs.Held.{held};
 ghost use Rattle.runs.specs.Declarations.{DeclaredKept, DeclaredMet};
 ghost use Rattle.runs.specs.Delivery.{DeclaredDelivered};

@@ -1,2 +1,4 @@
 // A settled plan: every message worked out, to be read.
+#![tactic(auto)]
+
 pub mod settled;

@@ -1,4 +1,6 @@
 // Tests of measured senders: the worked examples, and both edges of every limit.
+#![tactic(auto)]
+
 #[cfg(test)]
 mod tests {
     use bus::frame::longest;

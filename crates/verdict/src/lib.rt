@@ -1,4 +1,6 @@
 // Whether a message is met: the largest bound of its streams beside its due time.
+#![tactic(auto)]
+
 ghost use Rattle.verdict.specs.Judged.{Judged, JudgedDelivers, judgement_of, NoLess};
 ghost use Rattle.std.specs.Prelude.{◌≡◌};
 

@@ -1,4 +1,6 @@
 // Reads a table from standard input and prints how long each message can wait, or the first fault.
+#![tactic(auto)]
+
 use std::io;
 use std::io::Read;
 use table::answer::answer;

@@ -1,4 +1,6 @@
 // Worked examples, shown of the definitions.
+#![tactic(auto)]
+
 ghost use Rattle.worked.specs.Examples.{ExamplesHold};
 ghost use Rattle.worked.specs.Runs.{RunsKept};
 
