@@ -17,8 +17,8 @@ pub enum Outcome {
 // The longest time from the arrival of an instance of the stream until its frame is off the wire, over all phases of its
 // node. Phase 0 or a turning phase has it.
 pub fn bound<T: Traffic>(traffic: &T, stream: u32) -> Result<Outcome, Refusal>
-    ensures asked { BoundAsked (meaning traffic.now) stream result }
-    ensures delivered { BoundDelivered (meaning traffic.now) stream result }
+    ensures asked { BoundAsked (T.meaning traffic.now) stream result }
+    ensures delivered { BoundDelivered (T.meaning traffic.now) stream result }
 {
     let profile = read_profile(traffic, stream)?;
     let mut memo = new_memo();

@@ -10,9 +10,9 @@ use bus::traffic::Traffic;
 
 // What a stream may send in a window that begins at the phase.
 fn load<T: Traffic>(traffic: &T, stream: u32, phase: u32, window: u32) -> Result<u64, Refusal>
-    requires stream_bound { (stream < (meaning traffic.now).streams) × (phase < (meaning traffic.now).cycle ((meaning traffic.now).node stream)) }
-    requires traffic_bound { window + (meaning traffic.now).reach ≤ 20971520 }
-    ensures { result ≡ Ok (load (meaning traffic.now) stream phase window) }
+    requires asks { (stream < (T.meaning traffic.now).streams) × (phase < (T.meaning traffic.now).cycle ((T.meaning traffic.now).node stream)) }
+    requires window { window + (T.meaning traffic.now).reach ≤ 20971520 }
+    ensures { result ≡ Ok (load (T.meaning traffic.now) stream phase window) }
 {
     let count = traffic.count(stream, phase, window)?;
     Ok(u64::from(count) * u64::from(traffic.longest(stream)?))
@@ -25,9 +25,9 @@ pub(crate) fn demand<T: Traffic>(
     phase: u32,
     window: u32,
 ) -> Result<u64, Refusal>
-    requires members { (Members (meaning traffic.now) group.now) × (phase < (meaning traffic.now).cycle group.now.node) }
-    requires traffic_bound { window + (meaning traffic.now).reach ≤ 20971520 }
-    ensures { result ≡ Ok (sent (meaning traffic.now) group.now phase window) }
+    requires members { (Members (T.meaning traffic.now) group.now) × (phase < (T.meaning traffic.now).cycle group.now.node) }
+    requires window { window + (T.meaning traffic.now).reach ≤ 20971520 }
+    ensures { result ≡ Ok (sent (T.meaning traffic.now) group.now phase window) }
 {
     let mut sum = 0;
     for a in 0..group.len {
@@ -43,7 +43,7 @@ pub(crate) fn turn_from<T: Traffic>(
     from: u32,
 ) -> Result<Option<u32>, Refusal>
     requires { node < 16 }
-    ensures { TurnFound (meaning traffic.now) node from result }
+    ensures { TurnFound (T.meaning traffic.now) node from result }
 {
     if from < traffic.cycle(node)? {
         traffic.next_turn(node, from)
@@ -54,9 +54,9 @@ pub(crate) fn turn_from<T: Traffic>(
 
 // The most that the group may send in a window, over all phases of its node. Phase 0 or a turning phase has it.
 pub(crate) fn heaviest<T: Traffic>(traffic: &T, group: &Group, window: u32) -> Result<u64, Refusal>
-    requires members { (Members (meaning traffic.now) group.now) × (group.now.node < 16) }
-    requires traffic_bound { window + (meaning traffic.now).reach ≤ 20971520 }
-    ensures { result ≡ Ok (heaviest_sent (meaning traffic.now) group.now window) }
+    requires members { (Members (T.meaning traffic.now) group.now) × (group.now.node < 16) }
+    requires window { window + (T.meaning traffic.now).reach ≤ 20971520 }
+    ensures { result ≡ Ok (heaviest_sent (T.meaning traffic.now) group.now window) }
 {
     if group.len == 0 {
         return Ok(0);

@@ -18,8 +18,8 @@ pub(crate) struct Group {
 
 // Whether `other` is another stream of the node with the same or a lower identifier than the stream's.
 fn is_rival<T: Traffic>(traffic: &T, stream: u32, node: u32, other: u32) -> Result<bool, Refusal>
-    requires { (stream < (meaning traffic.now).streams) × (other < (meaning traffic.now).streams) }
-    ensures { result ≡ Ok (rival (meaning traffic.now) stream node other) }
+    requires { (stream < (T.meaning traffic.now).streams) × (other < (T.meaning traffic.now).streams) }
+    ensures { result ≡ Ok (rival (T.meaning traffic.now) stream node other) }
 {
     if traffic.node(other)? != node || other == stream {
         return Ok(false);
@@ -29,8 +29,8 @@ fn is_rival<T: Traffic>(traffic: &T, stream: u32, node: u32, other: u32) -> Resu
 
 // The streams of the node that can go before the stream's frames.
 pub(crate) fn gather<T: Traffic>(traffic: &T, stream: u32, node: u32) -> Result<Group, Refusal>
-    requires { stream < (meaning traffic.now).streams }
-    ensures { MatchResult result (Gathers (meaning traffic.now) stream node) (λ _. ⊥) }
+    requires { stream < (T.meaning traffic.now).streams }
+    ensures { MatchResult result (Gathers (T.meaning traffic.now) stream node) (λ _. ⊥) }
 {
     let mut streams = [0; MOST_STREAMS];
     let mut len = 0;

@@ -40,10 +40,10 @@ pub(crate) fn recall<T: Traffic>(
     memo: &mut Memo,
     window: u32,
 ) -> Result<u64, Refusal>
-    requires profiles { (Profiles (meaning traffic.now) profile.now) × (window + (meaning traffic.now).reach ≤ 20971520) }
-    requires keeps_2 { Keeps (meaning traffic.now) profile.now.stream memo.old }
-    ensures value { result ≡ Ok (others (meaning traffic.now) profile.now.stream window) }
-    ensures keeps { Keeps (meaning traffic.now) profile.now.stream memo.new }
+    requires profile { (Profiles (T.meaning traffic.now) profile.now) × (window + (T.meaning traffic.now).reach ≤ 20971520) }
+    requires kept { Keeps (T.meaning traffic.now) profile.now.stream memo.old }
+    ensures value { result ≡ Ok (others (T.meaning traffic.now) profile.now.stream window) }
+    ensures keeps { Keeps (T.meaning traffic.now) profile.now.stream memo.new }
 {
     let slot = window as usize % SLOTS;
     let kept = memo.slots[slot];

@@ -14,8 +14,8 @@ use bus::traffic::Traffic;
 
 // The time from the arrival of an instance to the end of its frame.
 fn response(window: u32, longest: u32, place: i64) -> u32
-    requires window_le_horizon { (window ≤ horizon) × (longest ≤ 200) }
-    requires pos_bound { (neg_ℤ (pos 16777216) ≤ℤ place) × (place ≤ℤ pos window) }
+    requires fits { (window ≤ horizon) × (longest ≤ 200) }
+    requires placed { (neg_ℤ (pos 16777216) ≤ℤ place) × (place ≤ℤ pos window) }
     ensures { pos result ≡ pos (window + longest) -ℤ place }
 {
     (i64::from(window + longest) - place) as u32
@@ -28,11 +28,11 @@ pub(crate) fn worst<T: Traffic>(
     memo: &mut Memo,
     phase: u32,
 ) -> Result<Outcome, Refusal>
-    requires profile { Profiles (meaning traffic.now) profile.now }
-    requires phase { phase < (meaning traffic.now).cycle ((meaning traffic.now).node profile.now.stream) }
-    requires kept { Keeps (meaning traffic.now) profile.now.stream memo.old }
-    ensures worst { Worst (meaning traffic.now) profile.now.stream phase result }
-    ensures keeps { Keeps (meaning traffic.now) profile.now.stream memo.new }
+    requires profile { Profiles (T.meaning traffic.now) profile.now }
+    requires phase { phase < (T.meaning traffic.now).cycle ((T.meaning traffic.now).node profile.now.stream) }
+    requires kept { Keeps (T.meaning traffic.now) profile.now.stream memo.old }
+    ensures worst { Worst (T.meaning traffic.now) profile.now.stream phase result }
+    ensures keeps { Keeps (T.meaning traffic.now) profile.now.stream memo.new }
 {
     let mut most = 0;
     let mut start = profile.blocking;

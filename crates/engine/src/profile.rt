@@ -24,7 +24,7 @@ pub(crate) struct Profile {
 
 // The longest frame that may be on the wire when one of the stream is queued.
 fn blocking<T: Traffic>(traffic: &T, stream: u32) -> Result<u32, Refusal>
-    ensures { StreamAsked (meaning traffic.now) (blocking (meaning traffic.now)) stream result }
+    ensures { StreamAsked (T.meaning traffic.now) (blocking (T.meaning traffic.now)) stream result }
 {
     let identifier = traffic.identifier(stream)?;
     let mut most = 0;
@@ -37,8 +37,8 @@ fn blocking<T: Traffic>(traffic: &T, stream: u32) -> Result<u32, Refusal>
 }
 
 fn gather_all<T: Traffic>(traffic: &T, stream: u32) -> Result<[Group; NODES], Refusal>
-    requires { stream < (meaning traffic.now).streams }
-    ensures { MatchResult result (Groups (meaning traffic.now) stream 16) (λ _. ⊥) }
+    requires { stream < (T.meaning traffic.now).streams }
+    ensures { MatchResult result (Groups (T.meaning traffic.now) stream 16) (λ _. ⊥) }
 {
     let mut groups = [gather(traffic, stream, 0)?; NODES];
     for n in 1..NODES {
@@ -48,7 +48,7 @@ fn gather_all<T: Traffic>(traffic: &T, stream: u32) -> Result<[Group; NODES], Re
 }
 
 pub(crate) fn read_profile<T: Traffic>(traffic: &T, stream: u32) -> Result<Profile, Refusal>
-    ensures { ProfileAsked (meaning traffic.now) stream result }
+    ensures { ProfileAsked (T.meaning traffic.now) stream result }
 {
     let node = traffic.node(stream)?;
     let longest = traffic.longest(stream)?;
@@ -70,8 +70,8 @@ fn elsewhere<T: Traffic>(
     node: usize,
     window: u32,
 ) -> Result<u64, Refusal>
-    requires { (Profiles (meaning traffic.now) profile.now) × ((node < 16) × (window + (meaning traffic.now).reach ≤ 20971520)) }
-    ensures { result ≡ Ok (only (not (node == (meaning traffic.now).node profile.now.stream)) (heaviest (meaning traffic.now) profile.now.stream node window)) }
+    requires { (Profiles (T.meaning traffic.now) profile.now) × ((node < 16) × (window + (T.meaning traffic.now).reach ≤ 20971520)) }
+    ensures { result ≡ Ok (only (not (node == (T.meaning traffic.now).node profile.now.stream)) (heaviest (T.meaning traffic.now) profile.now.stream node window)) }
 {
     if node as u32 == profile.node {
         return Ok(0);
@@ -85,8 +85,8 @@ pub(crate) fn others<T: Traffic>(
     profile: &Profile,
     window: u32,
 ) -> Result<u64, Refusal>
-    requires { (Profiles (meaning traffic.now) profile.now) × (window + (meaning traffic.now).reach ≤ 20971520) }
-    ensures { result ≡ Ok (others (meaning traffic.now) profile.now.stream window) }
+    requires { (Profiles (T.meaning traffic.now) profile.now) × (window + (T.meaning traffic.now).reach ≤ 20971520) }
+    ensures { result ≡ Ok (others (T.meaning traffic.now) profile.now.stream window) }
 {
     let mut sum = 0;
     for n in 0..NODES {

@@ -24,11 +24,11 @@ fn need<T: Traffic>(
     instance: u32,
     window: u32,
 ) -> Result<u64, Refusal>
-    requires asks { Asks (meaning traffic.now) profile.now phase instance }
+    requires asks { Asks (T.meaning traffic.now) profile.now phase instance }
     requires fits { window ≤ horizon }
-    requires kept { Keeps (meaning traffic.now) profile.now.stream memo.old }
-    ensures value { result ≡ Ok (need (meaning traffic.now) profile.now.stream phase instance window) }
-    ensures keeps { Keeps (meaning traffic.now) profile.now.stream memo.new }
+    requires kept { Keeps (T.meaning traffic.now) profile.now.stream memo.old }
+    ensures value { result ≡ Ok (need (T.meaning traffic.now) profile.now.stream phase instance window) }
+    ensures keeps { Keeps (T.meaning traffic.now) profile.now.stream memo.new }
 {
     let others = recall(traffic, profile, memo, window)?;
     let own = demand(
@@ -50,11 +50,11 @@ pub(crate) fn settle<T: Traffic>(
     instance: u32,
     start: u32,
 ) -> Result<Option<u32>, Refusal>
-    requires asks { Asks (meaning traffic.now) profile.now phase instance }
-    requires starts { (start ≤ horizon) × (Starts (meaning traffic.now) profile.now.stream phase instance start) }
-    requires kept { Keeps (meaning traffic.now) profile.now.stream memo.old }
-    ensures window { Settled (meaning traffic.now) profile.now.stream phase instance result }
-    ensures keeps { Keeps (meaning traffic.now) profile.now.stream memo.new }
+    requires asks { Asks (T.meaning traffic.now) profile.now phase instance }
+    requires starts { (start ≤ horizon) × (Starts (T.meaning traffic.now) profile.now.stream phase instance start) }
+    requires kept { Keeps (T.meaning traffic.now) profile.now.stream memo.old }
+    ensures window { Settled (T.meaning traffic.now) profile.now.stream phase instance result }
+    ensures keeps { Keeps (T.meaning traffic.now) profile.now.stream memo.new }
 {
     let mut window = start;
     loop {

@@ -44,8 +44,8 @@ fn larger(most: Option<u32>, bound: u32) -> u32
 
 // The verdict on the message with the identifier, whose streams are those that have it.
 pub fn judge<T: Traffic>(traffic: &T, identifier: u32, due: u32) -> Result<Verdict, Refusal>
-    ensures judged { Judged (meaning traffic.now) identifier due result }
-    ensures delivered { JudgedDelivers (meaning traffic.now) identifier result }
+    ensures judged { Judged (T.meaning traffic.now) identifier due result }
+    ensures delivered { JudgedDelivers (T.meaning traffic.now) identifier result }
 {
     let mut most = None;
     for stream in 0..traffic.streams() {

@@ -6,17 +6,17 @@ use Rattle.verdict.specs.Judged.{VerdictIs}
 use Rattle.verdict.proofs.Delivers.{verdict_delivers}
 use Rattle.verdict.proofs.Gaining.{Gained, gained_past, gained_more}
 use Rattle.verdict.proofs.judge.Goals as goal
-use Rattle.verdict.proofs.judge.Goals.{then-branch-identifier+in-ok-bound+in-Bounded, else-branch-identifier}
+use Rattle.verdict.proofs.judge.Goals.{then-branch-identifier+in_ok-bound+in-Bounded, else-branch-identifier}
 
 pub loop-stream-preserved : goal.loop-stream-preserved
 loop-stream-preserved g c =
     let m = g.T.Traffic.meaning c.args.traffic.now in
     let k = c.loop-stream.stream in
-    let asked = c.in-ok-identifier.ensures.answered (omega arith) in
-    let is : c.in-ok-identifier.field-0 ≡ m.identifier k = cc in
+    let asked = c.in_ok-identifier.ensures.answered (omega arith) in
+    let is : c.in_ok-identifier.field-0 ≡ m.identifier k = cc in
     elim c.if-branch-identifier.branch [
-      | then-branch-identifier+in-ok-bound+in-Bounded w ↦
-          let bound : IsBound m k w.in-Bounded.bound = rw w.in-Bounded.is at w.in-ok-bound.ensures.asked.1 in
+      | then-branch-identifier+in_ok-bound+in-Bounded w ↦
+          let bound : IsBound m k w.in-Bounded.bound = rw w.in-Bounded.is at w.in_ok-bound.ensures.asked.1 in
           rw w.most-is (gained_more m c.args.identifier k c.loop-stream.most w.in-Bounded.bound w.larger.result (sym is ∙ w.if-branch-identifier.true) bound w.larger.ensures c.loop-stream.invariant)
       | else-branch-identifier w ↦
           rw w.most-is (gained_past m c.args.identifier k c.loop-stream.most (λ e. w.if-branch-identifier.false (is ∙ e)) c.loop-stream.invariant)

@@ -6,8 +6,8 @@ use Rattle.engine.specs.Group.{member}
 use Rattle.engine.proofs.Sending.{front_at_most}
 use Rattle.engine.proofs.demand.demand.Goals as goal
 
-pub overflow-add-sum : goal.overflow-add-sum
-overflow-add-sum g c =
+pub overflow_add-sum : goal.overflow_add-sum
+overflow_add-sum g c =
     let m = g.T.Traffic.meaning c.args.traffic.now in
     let limits = g.met.T.Traffic.limits c.args.traffic.now in
     let group = c.args.group.now in

@@ -9,35 +9,35 @@ use Rattle.engine.proofs.demand.heaviest.Goals.{In-Some}
 
 -- the phase of this turn is the first turning one
 turns : (g : given.Over) (c : In-Some g) → FirstTurn (g.T.Traffic.meaning c.args.traffic.now) c.args.group.now.node c.loop-turn.from (Some c.in-Some.turn)
-turns g c = rw c.in-Some.is at c.in-ok-turn.ensures
+turns g c = rw c.in-Some.is at c.in_ok-turn.ensures
 
 pub returns-then-group-eq0 : goal.returns-then-group-eq0
-returns-then-group-eq0 g c = ap Ok (sym (heaviest_none (g.T.Traffic.meaning c.args.traffic.now) c.args.group.now c.requires.0.0 c.args.window c.if-group-eq0.true))
+returns-then-group-eq0 g c = ap Ok (sym (heaviest_none (g.T.Traffic.meaning c.args.traffic.now) c.args.group.now c.requires.members.0 c.args.window c.if-group-eq0.true))
 
 pub loop-turn-init : goal.loop-turn-init
 loop-turn-init g c =
     let m = g.T.Traffic.meaning c.args.traffic.now in
     let group = c.args.group.now in
-    let asked = c.in-ok-most.ensures in
-    let is : c.in-ok-most.most ≡ sent m group 0 c.args.window = cc in
-    rw is (climb_start m (g.met.T.Traffic.limits c.args.traffic.now) (g.met.T.Traffic.laws c.args.traffic.now) group.node (λ p. sent m group p c.args.window) (sent_rises m group c.requires.0.0 c.args.window) c.requires.0.1)
+    let asked = c.in_ok-most.ensures in
+    let is : c.in_ok-most.most ≡ sent m group 0 c.args.window = cc in
+    rw is (climb_start m (g.met.T.Traffic.limits c.args.traffic.now) (g.met.T.Traffic.laws c.args.traffic.now) group.node (λ p. sent m group p c.args.window) (sent_rises m group c.requires.members.0 c.args.window) c.requires.members.1)
 
-pub overflow-add-from : goal.overflow-add-from
-overflow-add-from g c =
+pub overflow_add-from : goal.overflow_add-from
+overflow_add-from g c =
     let few = (g.met.T.Traffic.limits c.args.traffic.now).few_phases c.args.group.now.node (omega arith) in
-    omega (arith, (turns g (goal.at.overflow-add-from g c).In-Some).1)
+    omega (arith, (turns g (goal.at.overflow_add-from g c).In-Some).1)
 
 pub loop-turn-preserved : goal.loop-turn-preserved
 loop-turn-preserved g c =
     let m = g.T.Traffic.meaning c.args.traffic.now in
     let group = c.args.group.now in
-    let asked = c.in-ok-demand.ensures in
+    let asked = c.in_ok-demand.ensures in
     let is : c.max-most.result ≡ max c.loop-turn.most (sent m group c.in-Some.turn c.args.window) = cc in
-    rw is (climb_on m (g.met.T.Traffic.limits c.args.traffic.now) (g.met.T.Traffic.laws c.args.traffic.now) group.node (λ p. sent m group p c.args.window) (sent_rises m group c.requires.0.0 c.args.window) _ _ _ c.loop-turn.invariant (turns g (goal.at.loop-turn-preserved g c).In-Some))
+    rw is (climb_on m (g.met.T.Traffic.limits c.args.traffic.now) (g.met.T.Traffic.laws c.args.traffic.now) group.node (λ p. sent m group p c.args.window) (sent_rises m group c.requires.members.0 c.args.window) _ _ _ c.loop-turn.invariant (turns g (goal.at.loop-turn-preserved g c).In-Some))
 
 pub returns : goal.returns
 returns g c =
     let m = g.T.Traffic.meaning c.args.traffic.now in
     let group = c.args.group.now in
-    let none : FirstTurn m group.node c.loop-turn.from None = rw c.in-default.is at c.in-ok-turn.ensures in
+    let none : FirstTurn m group.node c.loop-turn.from None = rw c.in_default.is at c.in_ok-turn.ensures in
     ap Ok (climb_end m (g.met.T.Traffic.limits c.args.traffic.now) (g.met.T.Traffic.laws c.args.traffic.now) group.node (λ p. sent m group p c.args.window) (sent_rises m group c.requires.0.0 c.args.window) _ _ c.loop-turn.invariant none)

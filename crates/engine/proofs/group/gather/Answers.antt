@@ -11,8 +11,8 @@ pub loop-k-preserved : goal.loop-k-preserved
 loop-k-preserved g c =
     let m = g.T.Traffic.meaning c.args.traffic.now in
     let few = (g.met.T.Traffic.limits c.args.traffic.now).few in
-    let told = c.in-ok-is-rival.ensures in
-    let is : c.in-ok-is-rival.field-0 ≡ rival m c.args.stream c.args.node c.loop-k.k = cc in
+    let told = c.in_ok-is_rival.ensures in
+    let is : c.in_ok-is_rival.field-0 ≡ rival m c.args.stream c.args.node c.loop-k.k = cc in
     elim c.if-branch.branch [
       | then-branch w ↦
           let long = c.loop-k.invariant.0 in

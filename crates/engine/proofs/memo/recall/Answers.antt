@@ -17,9 +17,9 @@ returns g c =
     let m = g.T.Traffic.meaning c.args.traffic.now in
     let i = c.args.profile.now.stream in
     let inside : c.args.window % 256 < 256 = omega arith in
-    let told = c.in-ok-sent.ensures in
-    let is : c.in-ok-sent.sent ≡ others m i c.args.window = cc in
+    let told = c.in_ok-sent.ensures in
+    let is : c.in_ok-sent.sent ≡ others m i c.args.window = cc in
     record {
       value = ap Ok is;
-      keeps = keeps_more m i (record { window = c.args.window; sent = c.in-ok-sent.sent }) (λ _. is) c.args.memo.now (c.args.window % 256) inside c.requires.1;
+      keeps = keeps_more m i (record { window = c.args.window; sent = c.in_ok-sent.sent }) (λ _. is) c.args.memo.now (c.args.window % 256) inside c.requires.1;
     }

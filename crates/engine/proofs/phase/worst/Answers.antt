@@ -6,7 +6,7 @@ use Rattle.bus.proofs.Listing.{listing_start, listing_on, listing_end, listing_n
 use Rattle.bus.proofs.Windows.{settled_few}
 use Rattle.engine.proofs.phase.worst.Given as given
 use Rattle.engine.proofs.phase.worst.Goals as goal
-use Rattle.engine.proofs.phase.worst.Goals.{In-Some, In-ok-place}
+use Rattle.engine.proofs.phase.worst.Goals.{In-Some, In_ok-place}
 
 pub loop-window-init : goal.loop-window-init
 loop-window-init g c =
@@ -15,20 +15,20 @@ loop-window-init g c =
 
 -- the instance of this turn settles
 settling : (g : given.Over) (c : In-Some g) → SettlingWindow (g.T.Traffic.meaning c.args.traffic.now) c.args.profile.now.stream c.args.phase c.loop-window.instance c.in-Some.window
-settling g c = rw c.in-Some.is at c.in-ok-window.ensures.window
+settling g c = rw c.in-Some.is at c.in_ok-window.ensures.window
 
 -- and stands at its place
-place_is : (g : given.Over) (c : In-ok-place g) → c.in-ok-place.place ≡ (g.T.Traffic.meaning c.args.traffic.now).place c.args.profile.now.stream c.args.phase c.loop-window.instance
-place_is g c = let asked = c.in-ok-place.ensures.answered (c.requires.profile.known, c.requires.phase, c.loop-window.invariant.0.counts, c.loop-window.invariant.0.few) in cc
+place_is : (g : given.Over) (c : In_ok-place g) → c.in_ok-place.place ≡ (g.T.Traffic.meaning c.args.traffic.now).place c.args.profile.now.stream c.args.phase c.loop-window.instance
+place_is g c = let asked = c.in_ok-place.ensures.answered (c.requires.profile.known, c.requires.phase, c.loop-window.invariant.0.counts, c.loop-window.invariant.0.few) in cc
 
 pub returns-then-place-from : goal.returns-then-place-from
 returns-then-place-from g c =
     let at = goal.at.returns-then-place-from g c in
-    let late : pos c.in-Some.window <ℤ c.in-ok-place.place = grind (arith, ints) in
+    let late : pos c.in-Some.window <ℤ c.in_ok-place.place = grind (arith, ints) in
     record {
       worst = listing_end _ (g.met.T.Traffic.limits c.args.traffic.now) c.args.profile.now.stream c.args.phase c.requires.profile.known c.requires.phase _ _ _ _ c.loop-window.invariant.0
           (settling g at.In-Some)
-          (rw (place_is g at.In-ok-place) at late);
+          (rw (place_is g at.In_ok-place) at late);
       keeps = c.settle.ensures.keeps;
     }
 
@@ -39,7 +39,7 @@ response-requires g c =
     let i = c.args.profile.now.stream in
     let low = far m (g.met.T.Traffic.laws c.args.traffic.now) i c.args.phase c.requires.profile.known c.requires.phase c.loop-window.instance c.loop-window.invariant.0.counts in
     let reach = limits.reach_fits in
-    let is = place_is g (goal.at.response-requires g c).In-ok-place in
+    let is = place_is g (goal.at.response-requires g c).In_ok-place in
     (((settling g (goal.at.response-requires g c).In-Some).within, omega (arith, c.requires.profile.longest, limits.short i c.requires.profile.known)), (omega (arith, ints), grind (arith, ints)))
 
 pub loop-window-smaller : goal.loop-window-smaller
@@ -49,18 +49,18 @@ loop-window-smaller g c =
 
 pub loop-window-preserved : goal.loop-window-preserved
 loop-window-preserved g c =
-    let in_time : c.in-ok-place.place ≤ℤ pos c.in-Some.window = grind (arith, ints) in
-    let response-is : pos c.response.result ≡ pos (c.in-Some.window + c.args.profile.now.longest) -ℤ c.in-ok-place.place = omega (arith, ints) in
+    let in_time : c.in_ok-place.place ≤ℤ pos c.in-Some.window = grind (arith, ints) in
+    let response-is : pos c.response.result ≡ pos (c.in-Some.window + c.args.profile.now.longest) -ℤ c.in_ok-place.place = omega (arith, ints) in
     let at = goal.at.loop-window-preserved g c in
     let listed = listing_on _ (g.met.T.Traffic.limits c.args.traffic.now) c.args.profile.now.stream c.args.phase c.requires.profile.known c.requires.phase _ _ _ _ _ c.loop-window.invariant.0
     (settling g at.In-Some)
-    (rw (place_is g at.In-ok-place) at in_time)
-    (rw (c.requires.profile.longest, place_is g at.In-ok-place) at response-is) in
+    (rw (place_is g at.In_ok-place) at in_time)
+    (rw (c.requires.profile.longest, place_is g at.In_ok-place) at response-is) in
     (rw c.max-most.ensures listed, c.settle.ensures.keeps)
 
 pub returns : goal.returns
 returns g c = record {
   worst = listing_never _ (g.met.T.Traffic.limits c.args.traffic.now) c.args.profile.now.stream c.args.phase c.requires.profile.known c.requires.phase _ _ _ c.loop-window.invariant.0
-      (rw c.in-default.is at c.in-ok-window.ensures.window);
+      (rw c.in_default.is at c.in_ok-window.ensures.window);
   keeps = c.settle.ensures.keeps;
 }

@@ -6,8 +6,8 @@ use Rattle.bus.proofs.Demands.{others_all}
 use Rattle.bus.proofs.Loads.{heaviest_at_most, heaviests_at_most}
 use Rattle.engine.proofs.profile.others.Goals as goal
 
-pub overflow-add-sum : goal.overflow-add-sum
-overflow-add-sum g c =
+pub overflow_add-sum : goal.overflow_add-sum
+overflow_add-sum g c =
     let m = g.T.Traffic.meaning c.args.traffic.now in
     let limits = g.met.T.Traffic.limits c.args.traffic.now in
     let i = c.args.profile.now.stream in

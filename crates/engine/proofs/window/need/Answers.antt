@@ -20,22 +20,22 @@ added a b c d a' b' c' d' p q r s h i j k = (omega arith, omega arith)
 
 -- what is added up is what the definition adds up, and fits
 total : (g : given.Over) (c : After-from-3 g) →
-    ((c.from-3.result + c.in-ok-others.others + c.in-ok-own.own_val + c.from.result * c.from-2.result)
+    ((c.from-3.result + c.in_ok-others.others + c.in_ok-own.own_val + c.from.result * c.from-2.result)
     ≡ needed (g.T.Traffic.meaning c.args.traffic.now) c.args.profile.now.stream c.args.phase c.args.instance c.args.window)
-    × ((c.from-3.result + c.in-ok-others.others + c.in-ok-own.own_val + c.from.result * c.from-2.result) ≤ 18446744073709551615)
+    × ((c.from-3.result + c.in_ok-others.others + c.in_ok-own.own_val + c.from.result * c.from-2.result) ≤ 18446744073709551615)
 total g c =
     let m = g.T.Traffic.meaning c.args.traffic.now in
     let limits = g.met.T.Traffic.limits c.args.traffic.now in
     let p = c.args.profile.now in
     let profiles = c.requires.asks.profiles in
     let fits : c.args.window + m.reach ≤ 20971520 = omega (arith, limits.reach_fits, c.requires.fits) in
-    let told = c.in-ok-others.ensures.value in
-    let others-is : c.in-ok-others.others ≡ others m p.stream c.args.window = cc in
+    let told = c.in_ok-others.ensures.value in
+    let others-is : c.in_ok-others.others ≡ others m p.stream c.args.window = cc in
     let at_home : Gathers m p.stream (m.node p.stream) (group_at p.groups p.node) =
     subst (λ n. Gathers m p.stream n (group_at p.groups p.node)) profiles.node (home g (goal.at.returns g c).Start) in
     let sends = sent_own m p.stream c.args.phase c.args.window (group_at p.groups p.node) at_home in
-    let told-own = c.in-ok-own.ensures in
-    let own_is : c.in-ok-own.own_val ≡ own m p.stream c.args.phase c.args.window = cc in
+    let told-own = c.in_ok-own.ensures in
+    let own_is : c.in_ok-own.own_val ≡ own m p.stream c.args.phase c.args.window = cc in
     let block-is : c.from-3.result ≡ blocking m p.stream = c.from-3.ensures ∙ profiles.blocks in
     let earlier-is : c.from.result * c.from-2.result ≡ (c.args.instance - 1) * m.longest p.stream =
     ap (λ x. x * c.from-2.result) c.from.ensures ∙ ap (λ x. (c.args.instance - 1) * x) (c.from-2.ensures ∙ profiles.longest) in
@@ -61,14 +61,14 @@ demand-requires g c =
     let inside : c.args.phase < m.cycle (group_at c.args.profile.now.groups c.args.profile.now.node).node = subst (λ n. c.args.phase < m.cycle n) (sym (here.is_node ∙ p.node)) c.requires.asks.is_phase in
     ((here.members, inside), omega (arith, (g.met.T.Traffic.limits c.args.traffic.now).reach_fits, c.requires.fits))
 
-pub overflow-add-result : goal.overflow-add-result
-overflow-add-result g c = omega (arith, (total g c).1)
+pub overflow_add-result : goal.overflow_add-result
+overflow_add-result g c = omega (arith, (total g c).1)
 
-pub overflow-add-result-2 : goal.overflow-add-result-2
-overflow-add-result-2 g c = omega (arith, (total g c).1)
+pub overflow_add-result-2 : goal.overflow_add-result-2
+overflow_add-result-2 g c = omega (arith, (total g c).1)
 
-pub overflow-add-result-3 : goal.overflow-add-result-3
-overflow-add-result-3 g c = omega (arith, (total g c).1)
+pub overflow_add-result-3 : goal.overflow_add-result-3
+overflow_add-result-3 g c = omega (arith, (total g c).1)
 
 pub returns : goal.returns
 returns g c = record { value = ap Ok (total g c).0; keeps = c.recall.ensures.keeps }

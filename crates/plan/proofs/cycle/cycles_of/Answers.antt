@@ -5,8 +5,8 @@ use Rattle.plan.specs.Cycle.{cycle_of}
 use Rattle.plan.specs.Kept.{long_at, short_nowhere}
 use Rattle.plan.proofs.cycle.cycles_of.Goals as goal
 
-pub returns-in-default : goal.returns-in-default
-returns-in-default c = long_at c.args.records.now c.loop-node.node (omega arith) c.in-default.ensures
+pub returns-in_default : goal.returns-in_default
+returns-in_default c = long_at c.args.records.now c.loop-node.node (omega arith) c.in_default.ensures
 
 pub loop-node-preserved : goal.loop-node-preserved
 loop-node-preserved c =

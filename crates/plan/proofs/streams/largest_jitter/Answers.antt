@@ -8,8 +8,8 @@ use Rattle.plan.specs.Kept.{within_at}
 use Rattle.plan.specs.Limited.{fits}
 use Rattle.plan.proofs.streams.largest_jitter.Goals as goal
 
-pub overflow-cast-message : goal.overflow-cast-message
-overflow-cast-message c =
+pub overflow_cast-message : goal.overflow_cast-message
+overflow_cast-message c =
     let rs = c.args.records.now in
     let k = c.loop-message.message-index in
     omega (arith, (fits (record_at rs k) (within_at rs c.requires k c.loop-message-test.true)).jitter)

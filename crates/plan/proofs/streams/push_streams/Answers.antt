@@ -7,7 +7,7 @@ pub returns-in-Mixed : goal.returns-in-Mixed
 returns-in-Mixed c = record {
   items =
       let is = ap (parts c.args.message) c.in-Mixed.is in
-      let both = append_assoc c.args.streams.now.items (c.stream-of-in-Mixed.result ∷ []) (c.stream-of-in-Mixed-2.result ∷ []) in
+      let both = append_assoc c.args.streams.now.items (c.stream_of-in-Mixed.result ∷ []) (c.stream_of-in-Mixed-2.result ∷ []) in
       cc;
-  capacity = c.push-reserved-in-Mixed-2.ensures.capacity ∙ c.push-reserved-in-Mixed.ensures.capacity;
+  capacity = c.push_reserved-in-Mixed-2.ensures.capacity ∙ c.push_reserved-in-Mixed.ensures.capacity;
 }

@@ -14,7 +14,7 @@ sooner-requires c = record {
 
 pub loop-stream-preserved : goal.loop-stream-preserved
 loop-stream-preserved c =
-    soonest_more c.args.node c.args.phase c.args.end c.loop-stream.soonest _ c.args.streams.now c.loop-stream.stream-index c.loop-stream-test.true c.loop-stream.invariant c.in-ok-soonest.ensures
+    soonest_more c.args.node c.args.phase c.args.end c.loop-stream.soonest _ c.args.streams.now c.loop-stream.stream-index c.loop-stream-test.true c.loop-stream.invariant c.in_ok-soonest.ensures
 
 pub returns : goal.returns
 returns c =

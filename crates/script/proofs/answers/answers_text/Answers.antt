@@ -8,8 +8,8 @@ use Rattle.script.proofs.answers.answers_text.Goals as goal
 pub loop-answer-preserved : goal.loop-answer-preserved
 loop-answer-preserved c =
     let answers : List Answer = c.args.answers.now in
-    let line = c.in-ok-answer-text.ensures in
-    c.in-ok-push-str.ensures.bytes
+    let line = c.in_ok-answer_text.ensures in
+    c.in_ok-push_str.ensures.bytes
     ∙ ap₂ ◌++◌ c.loop-answer.invariant (c.deref.ensures ∙ line)
     ∙ flat_map_more answer_text [] (take c.loop-answer.answer-index answers) _
     ∙ ap (λ (front : List Answer). flat_map answer_text front) (sym (take_more answers c.loop-answer.answer-index _ c.loop-answer-test.true))

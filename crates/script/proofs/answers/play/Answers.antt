@@ -8,15 +8,15 @@ use Rattle.script.proofs.answers.play.Goals as goal
 
 pub returns : goal.returns
 returns c =
-    let script = c.in-ok-script.script in
-    let life = c.in-ok-life.life in
-    let answers : string_bytes c.in-ok-out.out ≡ flat_map answer_text (vec_items life.answers) = c.in-ok-out.ensures ∙ ap (λ (xs : List Answer). flat_map answer_text xs) c.deref-2.ensures.value in
-    let ending : string_bytes c.in-ok-ending.ending ≡ ending_text life.misplaced script.whole (vec_len script.calls) = c.in-ok-ending.ensures ∙ ap (ending_text life.misplaced script.whole) c.len.ensures in
+    let script = c.in_ok-script.script in
+    let life = c.in_ok-life.life in
+    let answers : string_bytes c.in_ok-out.out ≡ flat_map answer_text (vec_items life.answers) = c.in_ok-out.ensures ∙ ap (λ (xs : List Answer). flat_map answer_text xs) c.deref-2.ensures.value in
+    let ending : string_bytes c.in_ok-ending.ending ≡ ending_text life.misplaced script.whole (vec_len script.calls) = c.in_ok-ending.ensures ∙ ap (ending_text life.misplaced script.whole) c.len.ensures in
     record {
       calls = vec_items script.calls;
       whole = script.whole;
-      read = c.in-ok-script.ensures;
+      read = c.in_ok-script.ensures;
       life = life;
-      lived = subst (λ (calls : List Call). Lived calls life) c.deref.ensures.value c.in-ok-life.ensures;
-      tells = c.in-ok-push-str.ensures.bytes ∙ ap₂ ◌++◌ answers (c.deref-3.ensures ∙ ending ∙ ap (ending_text life.misplaced script.whole) script.calls.ok.0);
+      lived = subst (λ (calls : List Call). Lived calls life) c.deref.ensures.value c.in_ok-life.ensures;
+      tells = c.in_ok-push_str.ensures.bytes ∙ ap₂ ◌++◌ answers (c.deref-3.ensures ∙ ending ∙ ap (ending_text life.misplaced script.whole) script.calls.ok.0);
     }

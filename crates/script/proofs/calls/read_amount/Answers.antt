@@ -8,13 +8,13 @@ use Rattle.script.proofs.calls.read_amount.Goals as goal
 number_stands : (s : List ℕ) (n next : ℕ) → ReadsNumber s n next → (s ≡ number_line n ++ drop next s) × (next ≡ length (number_line n))
 number_stands s n next read = (read.is ∙ sym (append_assoc (decimal n) (10 ∷ []) (drop next s)), omega (arith, read.ends, length-append (decimal n) (10 ∷ [])))
 
-pub slice-bounds-result-count : goal.slice-bounds-result-count
-slice-bounds-result-count c =
+pub slice_bounds-result-count : goal.slice_bounds-result-count
+slice_bounds-result-count c =
     let stands = number_stands c.args.text.now c.in-Ok.amount c.in-Ok.next c.in-Ok.ensures in
     line_within Short number_line c.args.text.now c.in-Ok.amount c.in-Ok.next stands.0 stands.1
 
-pub slice-bounds-result-start : goal.slice-bounds-result-start
-slice-bounds-result-start c =
+pub slice_bounds-result-start : goal.slice_bounds-result-start
+slice_bounds-result-start c =
     let stands = number_stands c.args.text.now c.in-Ok.amount c.in-Ok.next c.in-Ok.ensures in
     line_within Short number_line c.args.text.now c.in-Ok.amount c.in-Ok.next stands.0 stands.1
 

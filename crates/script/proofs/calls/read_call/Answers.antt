@@ -3,6 +3,6 @@ use Rattle.script.specs.Words.{word_text}
 use Rattle.script.specs.Calls.{word_of, argument_text, CallRead}
 use Rattle.script.proofs.calls.read_call.Goals as goal
 
-pub returns-in-err-word : goal.returns-in-err-word
-returns-in-err-word c =
-    rw c.from-residual.ensures (λ call rest lawful is. c.in-err-word.ensures (word_of call) _ (is ∙ append_assoc (word_text (word_of call)) (argument_text call) rest))
+pub returns-in_err-word : goal.returns-in_err-word
+returns-in_err-word c =
+    rw c.from_residual.ensures (λ call rest lawful is. c.in_err-word.ensures (word_of call) _ (is ∙ append_assoc (word_text (word_of call)) (argument_text call) rest))

@@ -9,12 +9,12 @@ returns g c =
     let m = g.T.Traffic.meaning below in
     let limits = g.met.T.Traffic.limits below in
     let reach = c.reach.result in
-    let largest = c.largest-of-largest.result in
-    let within = leb-true (reach + largest) 16777216 (sym c.within-reach.ensures ∙ c.if-not-within-reach.false) in
+    let largest = c.largest_of-largest.result in
+    let within = leb-true (reach + largest) 16777216 (sym c.within_reach.ensures ∙ c.if-not-within_reach.false) in
     record {
-      answers = set_answer m c.args.delays reach largest c.reach.ensures c.largest-of-largest.ensures within c.if-largest-gt-MOST-DELAY.false;
+      answers = set_answer m c.args.delays reach largest c.reach.ensures c.largest_of-largest.ensures within c.if-largest-gt-MOST_DELAY.false;
       below = refl;
       delays = refl;
-      meaning = λ _. standing_is m c.args.delays reach largest c.reach.ensures c.largest-of-largest.ensures within;
-      later = λ _. standing_holds m c.args.delays reach largest c.reach.ensures c.largest-of-largest.ensures within limits (g.met.T.Traffic.laws below);
+      meaning = λ _. standing_is m c.args.delays reach largest c.reach.ensures c.largest_of-largest.ensures within;
+      later = λ _. standing_holds m c.args.delays reach largest c.reach.ensures c.largest_of-largest.ensures within limits (g.met.T.Traffic.laws below);
     }

@@ -3,20 +3,20 @@ use Rattle.delay.specs.Delayed.{counting}
 use Rattle.delay.proofs.Asking.{passed, stands, window_fits, count_answer}
 use Rattle.delay.proofs.delayed.DelayedTraffic.count.Goals as goal
 
-pub returns-in-err-here : goal.returns-in-err-here
-returns-in-err-here g c = passed c.in-err-here.ensures (λ f. (f.0, f.1)) c.from-residual.ensures.1
+pub returns-in_err-here : goal.returns-in_err-here
+returns-in_err-here g c = passed c.in_err-here.ensures (λ f. (f.0, f.1)) c.from_residual.ensures.1
 
-pub overflow-add-window-2 : goal.overflow-add-window-2
-overflow-add-window-2 g c =
+pub overflow_add-window-2 : goal.overflow_add-window-2
+overflow_add-window-2 g c =
     let below = c.args.self.now.below in
     let m = g.T.Traffic.meaning below in
     let limits = g.met.T.Traffic.limits below in
     let delay = counting m c.args.self.now.delays in
     let i = c.args.stream in
     let p = c.args.phase in
-    let here = c.in-ok-here.here in
-    let s = stands m delay limits i p c.in-ok-here.ensures in
-    window_fits c.args.window c.reach.result here.delay _ c.reach.ensures s.small c.if-window-reach-gt-LAST-WINDOW.false
+    let here = c.in_ok-here.here in
+    let s = stands m delay limits i p c.in_ok-here.ensures in
+    window_fits c.args.window c.reach.result here.delay _ c.reach.ensures s.small c.if-window-reach-gt-LAST_WINDOW.false
 
 pub returns : goal.returns
 returns g c =
@@ -27,6 +27,6 @@ returns g c =
     let delay = counting m c.args.self.now.delays in
     let i = c.args.stream in
     let p = c.args.phase in
-    let here = c.in-ok-here.here in
-    let s = stands m delay limits i p c.in-ok-here.ensures in
-    count_answer m delay i p here s limits laws c.args.window (subst (λ r. c.args.window + r ≤ 20971520) c.reach.ensures c.if-window-reach-gt-LAST-WINDOW.false) c.count.ensures
+    let here = c.in_ok-here.here in
+    let s = stands m delay limits i p c.in_ok-here.ensures in
+    count_answer m delay i p here s limits laws c.args.window (subst (λ r. c.args.window + r ≤ 20971520) c.reach.ensures c.if-window-reach-gt-LAST_WINDOW.false) c.count.ensures

@@ -4,22 +4,22 @@ use Rattle.delay.specs.Delayed.{counting}
 use Rattle.delay.proofs.Asking.{passed, stands, place_answer, place_bounds}
 use Rattle.delay.proofs.delayed.DelayedTraffic.place.Goals as goal
 
-pub returns-in-err-here : goal.returns-in-err-here
-returns-in-err-here g c = passed c.in-err-here.ensures (λ f. (f.0, f.1)) c.from-residual.ensures.1
+pub returns-in_err-here : goal.returns-in_err-here
+returns-in_err-here g c = passed c.in_err-here.ensures (λ f. (f.0, f.1)) c.from_residual.ensures.1
 
-pub returns-in-err-place : goal.returns-in-err-place
-returns-in-err-place g c =
+pub returns-in_err-place : goal.returns-in_err-place
+returns-in_err-place g c =
     let below = c.args.self.now.below in
     let m = g.T.Traffic.meaning below in
     let limits = g.met.T.Traffic.limits below in
     let delay = counting m c.args.self.now.delays in
     let i = c.args.stream in
     let p = c.args.phase in
-    let s = stands m delay limits i p c.in-ok-here.ensures in
-    passed c.in-err-place.ensures (λ f. (f.0, s.inside_below, f.2, f.3)) c.from-residual-in-err-place.ensures.1
+    let s = stands m delay limits i p c.in_ok-here.ensures in
+    passed c.in_err-place.ensures (λ f. (f.0, s.inside_below, f.2, f.3)) c.from_residual-in_err-place.ensures.1
 
-pub overflow-sub-result : goal.overflow-sub-result
-overflow-sub-result g c =
+pub overflow_sub-result : goal.overflow_sub-result
+overflow_sub-result g c =
     let below = c.args.self.now.below in
     let m = g.T.Traffic.meaning below in
     let limits = g.met.T.Traffic.limits below in
@@ -27,9 +27,9 @@ overflow-sub-result g c =
     let delay = counting m c.args.self.now.delays in
     let i = c.args.stream in
     let p = c.args.phase in
-    let here = c.in-ok-here.here in
-    let s = stands m delay limits i p c.in-ok-here.ensures in
-    let b = place_bounds m delay i p here s limits laws c.args.instance c.in-ok-place.ensures in
+    let here = c.in_ok-here.here in
+    let s = stands m delay limits i p c.in_ok-here.ensures in
+    let b = place_bounds m delay i p here s limits laws c.args.instance c.in_ok-place.ensures in
     let low = b.0 in
     let high = b.1 in
     omega (arith, ints)
@@ -43,9 +43,9 @@ returns g c =
     let delay = counting m c.args.self.now.delays in
     let i = c.args.stream in
     let p = c.args.phase in
-    let here = c.in-ok-here.here in
-    let s = stands m delay limits i p c.in-ok-here.ensures in
-    let b = place_bounds m delay i p here s limits laws c.args.instance c.in-ok-place.ensures in
+    let here = c.in_ok-here.here in
+    let s = stands m delay limits i p c.in_ok-here.ensures in
+    let b = place_bounds m delay i p here s limits laws c.args.instance c.in_ok-place.ensures in
     let low = b.0 in
     let high = b.1 in
-    place_answer m delay i p here s c.args.instance (omega (arith, ints)) c.in-ok-place.ensures
+    place_answer m delay i p here s c.args.instance (omega (arith, ints)) c.in_ok-place.ensures

@@ -12,63 +12,63 @@ use Rattle.plan.specs.Plans.{kept}
 use Rattle.plan.proofs.Stepping.{enter_steps}
 use Rattle.plan.proofs.open.OpenPlan.enter.Goals as goal
 
-pub returns-in-err-cycle : goal.returns-in-err-cycle
-returns-in-err-cycle c =
-    let p = err_from_is_err_and c.from-residual.result c.from-residual.ensures.1 in
+pub returns-in_err-cycle : goal.returns-in_err-cycle
+returns-in_err-cycle c =
+    let p = err_from_is_err_and c.from_residual.result c.from_residual.ensures.1 in
     let rs = held c.args.self.now in
-    let refused = answer_refused (enter_rules c.args.message rs) (cycle_of c.args.message.node (rs ++ c.args.message ∷ [])) (length (rs ++ c.args.message ∷ [])) p.0 (sym c.in-err-cycle.ensures ∙ ap Err (sym p.2)) in
-    let done = done_refused (enter_rules c.args.message rs) rs (rs ++ c.args.message ∷ []) c.from-residual.result p.0 rs refused p.1 refl in
-    record { entered = done; step = enter_steps rs rs c.from-residual.result c.args.message done; cycles = least_cycles }
+    let refused = answer_refused (enter_rules c.args.message rs) (cycle_of c.args.message.node (rs ++ c.args.message ∷ [])) (length (rs ++ c.args.message ∷ [])) p.0 (sym c.in_err-cycle.ensures ∙ ap Err (sym p.2)) in
+    let done = done_refused (enter_rules c.args.message rs) rs (rs ++ c.args.message ∷ []) c.from_residual.result p.0 rs refused p.1 refl in
+    record { entered = done; step = enter_steps rs rs c.from_residual.result c.args.message done; cycles = least_cycles }
 
-pub push-reserved-requires : goal.push-reserved-requires
-push-reserved-requires c =
-    let a = accepted_by (held c.args.self.now) c.args.message _ (sym (ap is_ok c.in-ok-cycle.ensures)) in
+pub push_reserved-requires : goal.push_reserved-requires
+push_reserved-requires c =
+    let a = accepted_by (held c.args.self.now) c.args.message _ (sym (ap is_ok c.in_ok-cycle.ensures)) in
     omega (arith, a.room, c.args.self.now.room, c.args.self.now.records.ok.0)
 
-pub push-streams-requires : goal.push-streams-requires
-push-streams-requires c =
-    let a = accepted_by (held c.args.self.now) c.args.message _ (sym (ap is_ok c.in-ok-cycle.ensures)) in
+pub push_streams-requires : goal.push_streams-requires
+push_streams-requires c =
+    let a = accepted_by (held c.args.self.now) c.args.message _ (sym (ap is_ok c.in_ok-cycle.ensures)) in
     let few = streams_few (held c.args.self.now) in
     let carried = ap length c.args.self.now.carried in
     record { within = a.good; room = omega (arith, a.room, c.args.self.now.space, c.args.self.now.streams.ok.0) }
 
-pub offset-bounds-self-message : goal.offset-bounds-self-message
-offset-bounds-self-message c =
-    let a = accepted_by (held c.args.self.now) c.args.message _ (sym (ap is_ok c.in-ok-cycle.ensures)) in
+pub offset_bounds-self-message : goal.offset_bounds-self-message
+offset_bounds-self-message c =
+    let a = accepted_by (held c.args.self.now) c.args.message _ (sym (ap is_ok c.in_ok-cycle.ensures)) in
     let f = fits c.args.message a.good in omega (arith, f.node)
 
 pub bounds-self-message : goal.bounds-self-message
 bounds-self-message c =
-    let a = accepted_by (held c.args.self.now) c.args.message _ (sym (ap is_ok c.in-ok-cycle.ensures)) in
+    let a = accepted_by (held c.args.self.now) c.args.message _ (sym (ap is_ok c.in_ok-cycle.ensures)) in
     let f = fits c.args.message a.good in omega (arith, f.node)
 
-pub overflow-cast-message : goal.overflow-cast-message
-overflow-cast-message c =
-    let a = accepted_by (held c.args.self.now) c.args.message _ (sym (ap is_ok c.in-ok-cycle.ensures)) in
+pub overflow_cast-message : goal.overflow_cast-message
+overflow_cast-message c =
+    let a = accepted_by (held c.args.self.now) c.args.message _ (sym (ap is_ok c.in_ok-cycle.ensures)) in
     let f = fits c.args.message a.good in omega (arith, f.jitter)
 
-pub invariant-of-self : goal.invariant-of-self
-invariant-of-self c =
+pub invariant_of-self : goal.invariant_of-self
+invariant_of-self c =
     let rs = held c.args.self.now in
     let r = c.args.message in
     let v = cycle_of c.args.message.node (held c.args.self.now ++ c.args.message ∷ []) in
-    let told : Ok c.in-ok-cycle.cycle ≡ answer (enter_rules r rs) v = c.in-ok-cycle.ensures in
+    let told : Ok c.in_ok-cycle.cycle ≡ answer (enter_rules r rs) v = c.in_ok-cycle.ensures in
     let passes : is_ok (answer (enter_rules r rs) v) ≡ true = sym (ap is_ok told) in
     let a : Accepted rs r = accepted_by rs r v passes in
-    let is : c.in-ok-cycle.cycle ≡ v = (let q = answer_passed (enter_rules r rs) v v passes in cc) in
+    let is : c.in_ok-cycle.cycle ≡ v = (let q = answer_passed (enter_rules r rs) v v passes in cc) in
     let all : length c.args.self.now.cycles ≡ 16 = search rules in
     let new = entered_kept rs c.args.self.now.streams.items c.args.self.now.cycles c.args.self.now.reach r (kept c.args.self.now) a.good a.free a.room a.short all in
-    let k : Kept c.push-reserved.new.self.items c.push-streams.new.streams.items (set c.args.self.now.cycles r.node c.in-ok-cycle.cycle) c.max-self.result =
-    rw (c.push-reserved.ensures.items, c.push-streams.ensures.items, is, c.max-self.ensures) new in
-    (k.sound.few, (k.sound.within, (k.sound.distinct, (k.sound.short, (omega (arith, c.push-reserved.ensures.capacity, c.args.self.now.room), (k.carried, (omega (arith, c.push-streams.ensures.capacity, c.args.self.now.space), (k.cycled, (k.reached, tt)))))))))
+    let k : Kept c.push_reserved.new.self.items c.push_streams.new.streams.items (set c.args.self.now.cycles r.node c.in_ok-cycle.cycle) c.max-self.result =
+    rw (c.push_reserved.ensures.items, c.push_streams.ensures.items, is, c.max-self.ensures) new in
+    (k.sound.few, (k.sound.within, (k.sound.distinct, (k.sound.short, (omega (arith, c.push_reserved.ensures.capacity, c.args.self.now.room), (k.carried, (omega (arith, c.push_streams.ensures.capacity, c.args.self.now.space), (k.cycled, (k.reached, tt)))))))))
 
 pub returns : goal.returns
 returns c =
     let rs = held c.args.self.now in
     let r = c.args.message in
     let v = cycle_of c.args.message.node (held c.args.self.now ++ c.args.message ∷ []) in
-    let told : Ok c.in-ok-cycle.cycle ≡ answer (enter_rules r rs) v = c.in-ok-cycle.ensures in
-    let left = c.push-reserved.new.self.items in
+    let told : Ok c.in_ok-cycle.cycle ≡ answer (enter_rules r rs) v = c.in_ok-cycle.ensures in
+    let left = c.push_reserved.new.self.items in
     let passed = answer_passed (enter_rules r rs) v (length (rs ++ r ∷ [])) (sym (ap is_ok told)) in
-    let done = done_made (enter_rules r rs) rs (rs ++ r ∷ []) c.len.result left passed c.len.ensures c.push-reserved.ensures.items in
+    let done = done_made (enter_rules r rs) rs (rs ++ r ∷ []) c.len.result left passed c.len.ensures c.push_reserved.ensures.items in
     record { entered = done; step = enter_steps rs left (Ok c.len.result) r done; cycles = least_cycles }

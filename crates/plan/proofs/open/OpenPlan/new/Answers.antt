@@ -2,11 +2,11 @@ use Rattle.std.proofs.Common.{◌≡◌, ℕ, [], replicate, arith}
 use Rattle.plan.specs.Kept.{Kept, none_kept}
 use Rattle.plan.proofs.open.OpenPlan.new.Goals as goal
 
-pub invariant-of-result : goal.invariant-of-result
-invariant-of-result c =
-    let records = c.in-ok-records.ensures in
-    let streams = c.in-ok-streams.ensures in
-    let none-held : c.in-ok-records.records.items ≡ [] = records.items in
-    let none-carried : c.in-ok-streams.streams.items ≡ [] = streams.items in
-    let k : Kept c.in-ok-records.records.items c.in-ok-streams.streams.items (replicate {A = ℕ} 16 1) 0 = rw (none-held, none-carried) none_kept in
+pub invariant_of-result : goal.invariant_of-result
+invariant_of-result c =
+    let records = c.in_ok-records.ensures in
+    let streams = c.in_ok-streams.ensures in
+    let none-held : c.in_ok-records.records.items ≡ [] = records.items in
+    let none-carried : c.in_ok-streams.streams.items ≡ [] = streams.items in
+    let k : Kept c.in_ok-records.records.items c.in_ok-streams.streams.items (replicate {A = ℕ} 16 1) 0 = rw (none-held, none-carried) none_kept in
     (k.sound.few, (k.sound.within, (k.sound.distinct, (k.sound.short, (records.capacity, (k.carried, (streams.capacity, (k.cycled, (k.reached, tt)))))))))

@@ -29,38 +29,38 @@ told : (rs : List Record) (o : Option (List ℕ)) → CyclesAsked rs o → too_l
 told rs (Some cycles) asked short = refl
 told rs None asked short = absurd (both_ways (too_long rs) short asked)
 
-pub returns-in-default : goal.returns-in-default
-returns-in-default c =
+pub returns-in_default : goal.returns-in_default
+returns-in_default c =
     let rs = held c.args.self.now in
-    let none : holds c.args.identifier rs ≡ false = subst (λ (x : List Record). holds c.args.identifier x ≡ false) c.deref.ensures.value c.in-default.ensures in
+    let none : holds c.args.identifier rs ≡ false = subst (λ (x : List Record). holds c.args.identifier x ≡ false) c.deref.ensures.value c.in_default.ensures in
     let done = done_refused (strike_rules c.args.identifier rs) rs (struck c.args.identifier rs) (Err NotHeld) NotHeld rs (strike_refused rs c.args.identifier _ none) refl refl in
     record { done = done; step = strike_steps rs rs (Err NotHeld) c.args.identifier done }
 
-pub cycles-of-requires : goal.cycles-of-requires
-cycles-of-requires c =
-    subst (λ (rs : List Record). all_within rs ≡ true) (sym (c.deref-2.ensures.value ∙ c.remove.ensures.items)) (new_sound (goal.at.cycles-of-requires c).In-Some).within
+pub cycles_of-requires : goal.cycles_of-requires
+cycles_of-requires c =
+    subst (λ (rs : List Record). all_within rs ≡ true) (sym (c.deref-2.ensures.value ∙ c.remove.ensures.items)) (new_sound (goal.at.cycles_of-requires c).In-Some).within
 
 pub unwrap-self-requires : goal.unwrap-self-requires
 unwrap-self-requires c =
     let is = c.deref-2.ensures.value ∙ c.remove.ensures.items in
-    told _ c.cycles-of.result c.cycles-of.ensures (ap too_long is ∙ (new_sound (goal.at.unwrap-self-requires c).In-Some).short)
+    told _ c.cycles_of.result c.cycles_of.ensures (ap too_long is ∙ (new_sound (goal.at.unwrap-self-requires c).In-Some).short)
 
-pub list-streams-requires : goal.list-streams-requires
-list-streams-requires c =
-    let s = new_sound (goal.at.list-streams-requires c).In-Some in
+pub list_streams-requires : goal.list_streams-requires
+list_streams-requires c =
+    let s = new_sound (goal.at.list_streams-requires c).In-Some in
     let is = c.deref-3.ensures.value ∙ c.remove.ensures.items in
     record { within = subst (λ (rs : List Record). all_within rs ≡ true) (sym is) s.within; room = omega (arith, ap length is, s.few, c.args.self.now.space) }
 
-pub largest-jitter-self-requires : goal.largest-jitter-self-requires
-largest-jitter-self-requires c =
-    subst (λ (rs : List Record). all_within rs ≡ true) (sym (c.deref-4.ensures.value ∙ c.remove.ensures.items)) (new_sound (goal.at.largest-jitter-self-requires c).In-Some).within
+pub largest_jitter-self-requires : goal.largest_jitter-self-requires
+largest_jitter-self-requires c =
+    subst (λ (rs : List Record). all_within rs ≡ true) (sym (c.deref-4.ensures.value ∙ c.remove.ensures.items)) (new_sound (goal.at.largest_jitter-self-requires c).In-Some).within
 
-pub invariant-of-self-2 : goal.invariant-of-self-2
-invariant-of-self-2 c =
+pub invariant_of-self-2 : goal.invariant_of-self-2
+invariant_of-self-2 c =
     let p = c.args.self.now in
-    let s : Sound c.remove.new.self.items = subst Sound (sym c.remove.ensures.items) (new_sound (goal.at.invariant-of-self-2 c).In-Some) in
-    let cycles = subst (λ (o : Option (List ℕ)). CyclesAsked c.deref-2.result.now o) c.unwrap-self.ensures c.cycles-of.ensures in
-    (s.few, (s.within, (s.distinct, (s.short, (omega (arith, c.remove.ensures.capacity, p.room), (c.list-streams.ensures.items ∙ ap streams_of c.deref-3.ensures.value, (omega (arith, c.list-streams.ensures.capacity, p.space), (λ n l. cycles.0 n l ∙ ap (cycle_of n) c.deref-2.ensures.value, (c.largest-jitter-self.ensures ∙ ap reach_of c.deref-4.ensures.value, tt)))))))))
+    let s : Sound c.remove.new.self.items = subst Sound (sym c.remove.ensures.items) (new_sound (goal.at.invariant_of-self-2 c).In-Some) in
+    let cycles = subst (λ (o : Option (List ℕ)). CyclesAsked c.deref-2.result.now o) c.unwrap-self.ensures c.cycles_of.ensures in
+    (s.few, (s.within, (s.distinct, (s.short, (omega (arith, c.remove.ensures.capacity, p.room), (c.list_streams.ensures.items ∙ ap streams_of c.deref-3.ensures.value, (omega (arith, c.list_streams.ensures.capacity, p.space), (λ n l. cycles.0 n l ∙ ap (cycle_of n) c.deref-2.ensures.value, (c.largest_jitter-self.ensures ∙ ap reach_of c.deref-4.ensures.value, tt)))))))))
 
 pub returns : goal.returns
 returns c =

@@ -8,7 +8,7 @@ use Rattle.settled.specs.Figures.{figure_at, Known}
 use Rattle.settled.proofs.Delivering.{verdict_holds}
 use Rattle.settled.proofs.Filling.{Filled, filled_more}
 use Rattle.settled.proofs.settled.calls.settle.Goals as goal
-use Rattle.settled.proofs.settled.calls.settle.Goals.{in-Some, in-default}
+use Rattle.settled.proofs.settled.calls.settle.Goals.{in-Some, in_default}
 
 pub loop-k-preserved : goal.loop-k-preserved
 loop-k-preserved c =
@@ -18,10 +18,10 @@ loop-k-preserved c =
     let inside : k < length records = omega (arith, c.loop-k-test.true, c.len-k-end.ensures) in
     elim c.match-message.branch [
       | in-Some w ↦
-          let here : Known (traffic_of records) (record_at records k) w.work-out.result = subst (λ (message : Record). Known (traffic_of records) message w.work-out.result) w.in-Some.ensures.1 ∣ w.work-out.ensures ∣₁ in
+          let here : Known (traffic_of records) (record_at records k) w.work_out.result = subst (λ (message : Record). Known (traffic_of records) message w.work_out.result) w.in-Some.ensures.1 ∣ w.work_out.ensures ∣₁ in
           subst (λ (figures : List Verdict). Filled (λ n v. Known (traffic_of records) (record_at records n) v) (k + 1) figures) (sym w.verdicts-is)
-          (filled_more (λ n v. Known (traffic_of records) (record_at records n) v) k c.loop-k.verdicts w.work-out.result (omega arith) here c.loop-k.invariant)
-      | in-default w ↦ absurd (omega (arith, w.in-default.ensures))
+          (filled_more (λ n v. Known (traffic_of records) (record_at records n) v) k c.loop-k.verdicts w.work_out.result (omega arith) here c.loop-k.invariant)
+      | in_default w ↦ absurd (omega (arith, w.in_default.ensures))
     ]
 
 pub returns : goal.returns

@@ -15,11 +15,11 @@ keeps c =
     let at = c.requires.held in
     subst Fits (sym at.is) (fits _ (within_at (held c.args.plan.now) (sound c.args.plan.now).within at.place at.inside))
 
-pub overflow-cast-message : goal.overflow-cast-message
-overflow-cast-message c = omega (arith, (keeps (goal.at.overflow-cast-message c).Start).identifier)
+pub overflow_cast-message : goal.overflow_cast-message
+overflow_cast-message c = omega (arith, (keeps (goal.at.overflow_cast-message c).Start).identifier)
 
-pub overflow-cast-message-2 : goal.overflow-cast-message-2
-overflow-cast-message-2 c = omega (arith, (keeps (goal.at.overflow-cast-message-2 c).Start).due)
+pub overflow_cast-message-2 : goal.overflow_cast-message-2
+overflow_cast-message-2 c = omega (arith, (keeps (goal.at.overflow_cast-message-2 c).Start).due)
 
 pub unreachable-requires : goal.unreachable-requires
 unreachable-requires c =

@@ -6,14 +6,14 @@ use Rattle.sheet.specs.Sheet.{measured, holds, AllLawful, Apart}
 use Rattle.sheet.proofs.Noting.{note_lawful, note_apart, note_reach}
 use Rattle.sheet.proofs.sheet.Sheet.note.Goals as goal
 
-pub invariant-of-self : goal.invariant-of-self
-invariant-of-self c =
+pub invariant_of-self : goal.invariant_of-self
+invariant_of-self c =
     let old = c.args.self.now in
     let senders = vec_items old.senders in
     let sender = c.args.sender in
-    let new = vec_items c.push-reserved.new.self in
-    let items : senders ++ sender ∷ [] ≡ new = sym c.push-reserved.ensures.items in
-    let lawful : Lawful sender = ap (λ r. is_ok r) (sym c.check.ensures ∙ c.in-ok-check.was) in
+    let new = vec_items c.push_reserved.new.self in
+    let items : senders ++ sender ∷ [] ≡ new = sym c.push_reserved.ensures.items in
+    let lawful : Lawful sender = ap (λ r. is_ok r) (sym c.check.ensures ∙ c.in_ok-check.was) in
     let free : holds senders sender.identifier ≡ false = sym c.holds.ensures ∙ c.if-holds.false in
     let largest : c.max-self.result ≡ (measured new).reach =
     c.max-self.ensures ∙ ap (λ x. max x sender.jitter) old.largest ∙ sym (note_reach senders sender) ∙ ap (λ (xs : List Sender). (measured xs).reach) items in

@@ -8,8 +8,8 @@ use Rattle.plan.specs.Carried.{Known, all_known}
 use Rattle.plan.specs.Plans.{sound}
 use Rattle.plan.proofs.open.traffic.OpenPlanTraffic.next_turn.Goals as goal
 
-pub soonest-turn-requires : goal.soonest-turn-requires
-soonest-turn-requires c =
+pub soonest_turn-requires : goal.soonest_turn-requires
+soonest_turn-requires c =
     let rs = held c.args.self.now in
     let all = All-weaker (Known rs) (λ s. Paced s.timing) (λ s k. k.paced) (streams_of rs) (all_known rs (sound c.args.self.now)) in
     record { paced = subst (All (λ s. Paced s.timing)) (sym (c.deref.ensures.value ∙ c.args.self.now.carried)) all; before = omega (arith, c.if-phase-cycle.false) }

@@ -3,6 +3,6 @@ use Rattle.plan.specs.Held.{held}
 use Rattle.plan.specs.Kept.{streams_few}
 use Rattle.plan.proofs.open.traffic.OpenPlanTraffic.streams.Goals as goal
 
-pub overflow-cast-result : goal.overflow-cast-result
-overflow-cast-result c =
+pub overflow_cast-result : goal.overflow_cast-result
+overflow_cast-result c =
     omega (arith, c.args.self.now.streams.ok.0, ap length c.args.self.now.carried, streams_few (held c.args.self.now), c.args.self.now.few)
