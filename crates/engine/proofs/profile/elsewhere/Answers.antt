@@ -7,7 +7,7 @@ use Rattle.engine.proofs.profile.elsewhere.Goals as goal
 pub heaviest-requires : goal.heaviest-requires
 heaviest-requires g c =
     let gathers = c.requires.0.groups c.args.node c.requires.1.0 in
-    (record { members = (gathers.members, omega (arith, gathers.is_node)); traffic_bound = c.requires.1.1 })
+    (record { members = (gathers.members, omega (arith, gathers.is_node)); window = c.requires.1.1 })
 
 pub returns-then-node-profile : goal.returns-then-node-profile
 returns-then-node-profile g c =
