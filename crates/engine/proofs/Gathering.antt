@@ -1,7 +1,7 @@
 -- A group gathers the streams that pass, one after another. Assumes nothing.
 use Rattle.std.proofs.Common.{◌≡◌, ℕ, ◌+◌, ◌<◌, true, false, List, length, get_or, set, refl, ap, inl, inr, arith, get_or-set_other, get_or-set_same}
 use Rattle.std.proofs.lemmas.Bool.{cases_lt, and_parts, eqb-true}
-use Rattle.bus.specs.Sums.{sum_below, only}
+use Rattle.bus.specs.Sums.{only}
 use Rattle.bus.specs.Meaning.{Meaning}
 use Rattle.bus.proofs.Adding.{sum_more, sum_same}
 use Rattle.engine.specs.declared.group.Group.{Group}

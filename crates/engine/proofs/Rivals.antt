@@ -1,8 +1,8 @@
 -- The groups of a stream's rivals send just its demands. Assumes nothing.
-use Rattle.std.proofs.Common.{◌≡◌, ℕ, ◌<◌, ◌≤◌, Bool, true, false, not, ◌&&◌, eqb, ltb, leb, sym, refl, ap, ◌∙◌, ⊎_elim, arith}
-use Rattle.std.proofs.lemmas.Bool.{cases_Bool, and_left, eqb-true, ne_eqb}
+use Rattle.std.proofs.Common.{◌≡◌, ℕ, ◌<◌, Bool, true, false, not, ◌&&◌, eqb, ltb, leb, sym, refl, ap, ◌∙◌, arith}
+use Rattle.std.proofs.lemmas.Bool.{eqb-true}
 use Rattle.std.proofs.lemmas.Bool.Decides.{nat_tests}
-use Rattle.bus.specs.Sums.{sum_below, only}
+use Rattle.bus.specs.Sums.{only}
 use Rattle.bus.specs.Meaning.{Meaning, Laws}
 use Rattle.bus.specs.Bound.{load, demand, heaviest, own, urgent}
 use Rattle.bus.proofs.Adding.{sum_same, largest_same}

@@ -1,6 +1,6 @@
 -- What a group sends: how much it can be, and that it grows toward nearer phases. Assumes nothing.
-use Rattle.std.proofs.Common.{◌≡◌, ℕ, ◌+◌, ◌*◌, ◌<◌, ◌≤◌, arith}
-use Rattle.bus.specs.Sums.{sum_below, largest_below}
+use Rattle.std.proofs.Common.{◌≡◌, ℕ, ◌+◌, ◌*◌, ◌≤◌, arith}
+use Rattle.bus.specs.Sums.{sum_below}
 use Rattle.bus.specs.Meaning.{Meaning, Limits}
 use Rattle.bus.specs.Bound.{load}
 use Rattle.bus.proofs.Adding.{sum_at_most, sum_grows, largest_at_most}

@@ -1,5 +1,5 @@
 -- What is asked of a phase and an instance, and what the search for a window finds. Assumes nothing.
-use Rattle.std.specs.Prelude.{◌≡◌, ℕ, ◌<◌, ◌≤◌, Some, None, Ok, Err, Option, Result}
+use Rattle.std.specs.Prelude.{ℕ, ◌<◌, ◌≤◌, Some, None, Ok, Err, Option, Result}
 use Rattle.bus.specs.declared.refusal.Refusal.{Refusal}
 use Rattle.bus.specs.Meaning.{Meaning}
 use Rattle.bus.specs.Bound.{horizon, Settles, SettlingWindow}

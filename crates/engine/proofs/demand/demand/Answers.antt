@@ -11,9 +11,9 @@ overflow_add-sum g c =
     let m = g.T.Traffic.meaning c.args.traffic.now in
     let limits = g.met.T.Traffic.limits c.args.traffic.now in
     let group = c.args.group.now in
-    let here = load_at_most m limits (member group c.loop-a.a) c.args.phase c.args.window (c.requires.0.0.known c.loop-a.a (omega arith)) (omega arith) in
-    let before = front_at_most m group c.requires.0.0 limits c.loop-a.a c.args.phase c.args.window (omega arith) (omega arith) in
-    let few = c.requires.0.0.few in
+    let here = load_at_most m limits (member group c.loop-a.a) c.args.phase c.args.window (c.requires.members.0.known c.loop-a.a (omega arith)) (omega arith) in
+    let before = front_at_most m group c.requires.members.0 limits c.loop-a.a c.args.phase c.args.window (omega arith) (omega arith) in
+    let few = c.requires.members.0.few in
     grind arith
 
 pub loop-a-preserved : goal.loop-a-preserved

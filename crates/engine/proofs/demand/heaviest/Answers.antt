@@ -40,4 +40,4 @@ returns g c =
     let m = g.T.Traffic.meaning c.args.traffic.now in
     let group = c.args.group.now in
     let none : FirstTurn m group.node c.loop-turn.from None = rw c.in_default.is at c.in_ok-turn.ensures in
-    ap Ok (climb_end m (g.met.T.Traffic.limits c.args.traffic.now) (g.met.T.Traffic.laws c.args.traffic.now) group.node (λ p. sent m group p c.args.window) (sent_rises m group c.requires.0.0 c.args.window) _ _ c.loop-turn.invariant none)
+    ap Ok (climb_end m (g.met.T.Traffic.limits c.args.traffic.now) (g.met.T.Traffic.laws c.args.traffic.now) group.node (λ p. sent m group p c.args.window) (sent_rises m group c.requires.members.0 c.args.window) _ _ c.loop-turn.invariant none)

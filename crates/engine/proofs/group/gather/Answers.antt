@@ -1,4 +1,4 @@
-use Rattle.std.proofs.Common.{◌≡◌, ◌<◌, sym, refl, ap, ◌∙◌, arith, length-set}
+use Rattle.std.proofs.Common.{◌≡◌, sym, refl, ◌∙◌, arith, length-set}
 use Rattle.engine.specs.Group.{rival}
 use Rattle.engine.proofs.Gathering.{gathered_none, gathered_more, gathered_past}
 use Rattle.engine.proofs.group.gather.Goals as goal

@@ -40,7 +40,10 @@ response-requires g c =
     let low = far m (g.met.T.Traffic.laws c.args.traffic.now) i c.args.phase c.requires.profile.known c.requires.phase c.loop-window.instance c.loop-window.invariant.0.counts in
     let reach = limits.reach_fits in
     let is = place_is g (goal.at.response-requires g c).In_ok-place in
-    (((settling g (goal.at.response-requires g c).In-Some).within, omega (arith, c.requires.profile.longest, limits.short i c.requires.profile.known)), (omega (arith, ints), grind (arith, ints)))
+    record {
+      fits = ((settling g (goal.at.response-requires g c).In-Some).within, omega (arith, c.requires.profile.longest, limits.short i c.requires.profile.known));
+      placed = (omega (arith, ints), grind (arith, ints));
+    }
 
 pub loop-window-smaller : goal.loop-window-smaller
 loop-window-smaller g c =

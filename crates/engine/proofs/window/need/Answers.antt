@@ -1,5 +1,5 @@
 use Rattle.std.proofs.Common.{◌≡◌, ℕ, ◌+◌, ◌-◌, ◌*◌, ◌<◌, ◌≤◌, Ok, sym, ap, ◌∙◌, subst, arith}
-use Rattle.bus.specs.Bound.{goal as needed, others, own, blocking}
+use Rattle.bus.specs.Bound.{need as needed, others, own, blocking}
 use Rattle.bus.proofs.Loads.{blocking_at_most, others_at_most, own_at_most, earlier_at_most}
 use Rattle.engine.specs.Group.{Gathers}
 use Rattle.engine.specs.Profile.{group_at}
@@ -20,9 +20,9 @@ added a b c d a' b' c' d' p q r s h i j k = (omega arith, omega arith)
 
 -- what is added up is what the definition adds up, and fits
 total : (g : given.Over) (c : After-from-3 g) →
-    ((c.from-3.result + c.in_ok-others.others + c.in_ok-own.own_val + c.from.result * c.from-2.result)
+    ((c.from-3.result + c.in_ok-others.others + c.in_ok-own.own + c.from.result * c.from-2.result)
     ≡ needed (g.T.Traffic.meaning c.args.traffic.now) c.args.profile.now.stream c.args.phase c.args.instance c.args.window)
-    × ((c.from-3.result + c.in_ok-others.others + c.in_ok-own.own_val + c.from.result * c.from-2.result) ≤ 18446744073709551615)
+    × ((c.from-3.result + c.in_ok-others.others + c.in_ok-own.own + c.from.result * c.from-2.result) ≤ 18446744073709551615)
 total g c =
     let m = g.T.Traffic.meaning c.args.traffic.now in
     let limits = g.met.T.Traffic.limits c.args.traffic.now in
@@ -35,7 +35,7 @@ total g c =
     subst (λ n. Gathers m p.stream n (group_at p.groups p.node)) profiles.node (home g (goal.at.returns g c).Start) in
     let sends = sent_own m p.stream c.args.phase c.args.window (group_at p.groups p.node) at_home in
     let told-own = c.in_ok-own.ensures in
-    let own_is : c.in_ok-own.own_val ≡ own m p.stream c.args.phase c.args.window = cc in
+    let own_is : c.in_ok-own.own ≡ own m p.stream c.args.phase c.args.window = cc in
     let block-is : c.from-3.result ≡ blocking m p.stream = c.from-3.ensures ∙ profiles.blocks in
     let earlier-is : c.from.result * c.from-2.result ≡ (c.args.instance - 1) * m.longest p.stream =
     ap (λ x. x * c.from-2.result) c.from.ensures ∙ ap (λ x. (c.args.instance - 1) * x) (c.from-2.ensures ∙ profiles.longest) in
@@ -46,7 +46,7 @@ total g c =
     added _ _ _ _ _ _ _ _ block-is others-is own_is earlier-is most-block most-others most-own most-earlier
 
 pub recall-requires : goal.recall-requires
-recall-requires g c = ((c.requires.asks.profiles, omega (arith, (g.met.T.Traffic.limits c.args.traffic.now).reach_fits, c.requires.fits)), c.requires.kept)
+recall-requires g c = record { profile = (c.requires.asks.profiles, omega (arith, (g.met.T.Traffic.limits c.args.traffic.now).reach_fits, c.requires.fits)); kept = c.requires.kept }
 
 pub bounds-profile-profile : goal.bounds-profile-profile
 bounds-profile-profile g c =
@@ -59,7 +59,7 @@ demand-requires g c =
     let p = c.requires.asks.profiles in
     let here = home g (goal.at.demand-requires g c).Start in
     let inside : c.args.phase < m.cycle (group_at c.args.profile.now.groups c.args.profile.now.node).node = subst (λ n. c.args.phase < m.cycle n) (sym (here.is_node ∙ p.node)) c.requires.asks.is_phase in
-    ((here.members, inside), omega (arith, (g.met.T.Traffic.limits c.args.traffic.now).reach_fits, c.requires.fits))
+    record { members = (here.members, inside); window = omega (arith, (g.met.T.Traffic.limits c.args.traffic.now).reach_fits, c.requires.fits) }
 
 pub overflow_add-result : goal.overflow_add-result
 overflow_add-result g c = omega (arith, (total g c).1)

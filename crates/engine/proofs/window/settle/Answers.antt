@@ -1,5 +1,5 @@
 use Rattle.std.proofs.Common.{◌≡◌, arith}
-use Rattle.bus.specs.Bound.{goal as needed}
+use Rattle.bus.specs.Bound.{need as needed}
 use Rattle.bus.specs.Search.{Starts}
 use Rattle.bus.proofs.Windows.{starts_on}
 use Rattle.engine.proofs.window.settle.Given as given
