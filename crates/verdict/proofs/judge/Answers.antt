@@ -1,10 +1,9 @@
 use Rattle.std.proofs.Common.{◌≡◌, sym, ◌∙◌, arith, rules}
 use Rattle.bus.specs.Bound.{IsBound}
-use Rattle.engine.specs.Bounded.{OutcomeIs}
 use Rattle.verdict.specs.declared.Verdict.TheVariants.{Bound}
 use Rattle.verdict.specs.Judged.{VerdictIs}
 use Rattle.verdict.proofs.Delivers.{verdict_delivers}
-use Rattle.verdict.proofs.Gaining.{Gained, gained_past, gained_more}
+use Rattle.verdict.proofs.Gaining.{gained_past, gained_more}
 use Rattle.verdict.proofs.judge.Goals as goal
 use Rattle.verdict.proofs.judge.Goals.{then-branch-identifier+in_ok-bound+in-Bounded, else-branch-identifier}
 
