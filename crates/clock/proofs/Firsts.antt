@@ -1,11 +1,11 @@
 -- The closed form of a first place is the least that meets the period. Assumes nothing.
-use Rattle.std.proofs.Common.{◌≡◌, ℕ, suc, ◌+◌, ◌-◌, ◌*◌, ◌/◌, ◌%◌, ◌<◌, ◌≤◌, ℤ, pos, negsuc, ◌+ℤ◌, ◌-ℤ◌, ◌*ℤ◌, neg_ℤ, ◌≤ℤ◌, sym, ap, ◌∙◌, inl, inr, add-mul, arith}
+use Rattle.std.proofs.Common.{◌≡◌, ℕ, suc, ◌+◌, ◌-◌, ◌*◌, ◌/◌, ◌%◌, ◌≤◌, ℤ, pos, negsuc, ◌+ℤ◌, ◌-ℤ◌, neg_ℤ, ◌≤ℤ◌, sym, ap, ◌∙◌, inl, inr, add-mul, arith}
 use native.Mathlib.Nat.{mul-mod_left, add-mul-mod_self_right}
 use Rattle.std.proofs.lemmas.Nat.{div-add-mod', mod_below}
 use Rattle.std.proofs.lemmas.Int.{ints}
 use Rattle.std.proofs.lemmas.Bool.{cases_lt}
 use Rattle.clock.specs.declared.timing.Timing.TheVariants.{Timed}
-use Rattle.clock.specs.Timing.{lead, late, place_of, MultipleOf, IsFirst, FirstPlaces}
+use Rattle.clock.specs.Timing.{lead, late, place_of, MultipleOf, FirstPlaces}
 use Rattle.clock.proofs.Leads.{lead_falls}
 
 -- a difference of multiples is one

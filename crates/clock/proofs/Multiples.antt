@@ -1,5 +1,5 @@
 -- The least common multiple: its laws, from its being the least. Assumes nothing.
-use Rattle.std.proofs.Common.{◌≡◌, ℕ, zero, suc, ◌+◌, ◌-◌, ◌*◌, ◌/◌, ◌%◌, ◌<◌, ◌≤◌, Bool, true, false, eqb, ◌⊎◌, List, [], ◌∷◌, fold, sym, refl, ap, ◌∙◌, subst, inl, inr, ⊎_elim, add-zero, mod-lt, mul_assoc, mul_comm, mul-le-mul_left, mul-pos, mul-zero, zero-mul, mul-one, mul-add, mul_left_comm, arith}
+use Rattle.std.proofs.Common.{◌≡◌, ℕ, zero, suc, ◌+◌, ◌-◌, ◌*◌, ◌/◌, ◌%◌, ◌<◌, ◌≤◌, Bool, true, false, eqb, List, [], ◌∷◌, fold, sym, refl, ap, ◌∙◌, subst, inl, inr, add-zero, mod-lt, mul_assoc, mul_comm, mul-le-mul_left, mul-pos, mul-zero, zero-mul, mul-one, mul-add, mul_left_comm, arith}
 use native.Mathlib.Nat.{mul-sub, mul-mod_right, div-add-mod, eq_of_mul-eq-mul_left, mul-div_cancel_left, zero-div}
 use Rattle.std.specs.List.{AllByRecursion as All}
 use Rattle.std.proofs.lemmas.Bool.{cond_both, eqb-true, eqb-false, eq-eqb, cases_eq, cases_lt}

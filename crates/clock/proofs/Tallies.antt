@@ -1,11 +1,11 @@
 -- How many instances are placed within a window. Assumes nothing.
-use Rattle.std.proofs.Common.{◌≡◌, ℕ, ◌+◌, ◌-◌, ◌*◌, ◌/◌, ◌<◌, ◌≤◌, pos, ◌-ℤ◌, ◌≤ℤ◌, ◌<ℤ◌, Ok, inl, inr, mul-le-mul_right, div-mul-le_self, arith}
+use Rattle.std.proofs.Common.{ℕ, ◌+◌, ◌-◌, ◌*◌, ◌/◌, ◌<◌, ◌≤◌, pos, ◌-ℤ◌, ◌≤ℤ◌, ◌<ℤ◌, Ok, inl, inr, mul-le-mul_right, div-mul-le_self, arith}
 use Rattle.std.proofs.lemmas.Nat.{le-div}
 use Rattle.std.proofs.lemmas.Int.{ints}
 use Rattle.std.proofs.lemmas.Bool.{cases_lt}
 use Rattle.clock.specs.declared.timing.Timing.{Timing}
 use Rattle.clock.specs.declared.timing.Timing.TheVariants.{Timed, Event}
-use Rattle.clock.specs.Timing.{Paced, lead, late, place_of, Counted, CountTold}
+use Rattle.clock.specs.Timing.{Paced, lead, late, Counted, CountTold}
 
 in_time : (x jitter w : ℕ) → x ≤ w + jitter → (pos x -ℤ pos jitter) ≤ℤ pos w
 in_time x jitter w h = omega (arith, ints)

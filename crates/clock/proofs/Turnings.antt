@@ -1,8 +1,8 @@
 -- A timed stream turns where its lead is 0, and from p on first as far ahead as its lead there. Assumes nothing.
-use Rattle.std.proofs.Common.{◌≡◌, ℕ, ◌+◌, ◌-◌, ◌*◌, ◌<◌, ◌≤◌, true, false, ℤ, pos, ◌-ℤ◌, neg_ℤ, Some, ap, ◌∙◌, inl, inr, arith}
+use Rattle.std.proofs.Common.{◌≡◌, ℕ, ◌+◌, ◌-◌, ◌≤◌, true, false, pos, ◌-ℤ◌, neg_ℤ, Some, ap, ◌∙◌, arith}
 use Rattle.std.proofs.lemmas.Int.{ints}
 use Rattle.clock.specs.declared.timing.Timing.TheVariants.{Timed}
-use Rattle.clock.specs.Timing.{lead, late, place_of, same, turns_at, FirstTurning}
+use Rattle.clock.specs.Timing.{lead, late, same, turns_at, FirstTurning}
 use Rattle.clock.proofs.Leads.{lead_falls}
 
 same_yes : (x jitter : ℕ) → x ≡ 0 → same (pos x -ℤ pos jitter) (neg_ℤ (pos jitter)) ≡ true

@@ -1,6 +1,6 @@
 -- Common divisors and common multiples. Assumes nothing.
 use Rattle.std.specs.Prelude.{◌≡◌, ℕ, zero, suc, ◌+◌, ◌-◌, ◌*◌, ◌%◌, ◌≤◌, Bool, cond, List, fold, nat_eq}
-use Rattle.std.specs.List.{AllByRecursion as All}
+use Rattle.std.specs.List.{AllByRecursion}
 
 abbrev pub Divides : ℕ → ℕ → Type 0
 Divides d n = (k : ℕ) × (n ≡ d * k)
@@ -13,8 +13,8 @@ pub record GreatestCommon (a b g : ℕ) : Type 0 where
 
 -- m is a multiple of each number of the list, and divides each that is; that of no number is 1
 pub record LeastCommon (ns : List ℕ) (m : ℕ) : Type 0 where
-  pub common : All (λ n. Divides n m) ns
-  pub least : (k : ℕ) → All (λ n. Divides n k) ns → Divides m k
+  pub common : AllByRecursion (λ n. Divides n m) ns
+  pub least : (k : ℕ) → AllByRecursion (λ n. Divides n k) ns → Divides m k
 
 -- the first of k, k + 1, .., k + n that passes the test, or k + n where none before it does
 abbrev pub first_from : ℕ → ℕ → (ℕ → Bool) → ℕ
@@ -34,4 +34,4 @@ abbrev pub lcm_of : List ℕ → ℕ
 lcm_of ns = fold lcm 1 ns
 
 abbrev pub LeastMultiples : Type 0
-LeastMultiples = (ns : List ℕ) → All (λ n. 1 ≤ n) ns → LeastCommon ns (lcm_of ns)
+LeastMultiples = (ns : List ℕ) → AllByRecursion (λ n. 1 ≤ n) ns → LeastCommon ns (lcm_of ns)

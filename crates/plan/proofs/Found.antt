@@ -6,7 +6,7 @@ use Rattle.bus.specs.declared.refusal.Refusal.TheVariants.{Question}
 use Rattle.bus.specs.Asked.{Asked, PlaceAsked, CountAsked}
 use Rattle.bus.proofs.Answered.{within, answer, below_or_not}
 use Rattle.bus.proofs.Growing.{count_is}
-use Rattle.clock.specs.Timing.{Paced, place_of, Counted, PlaceTold, CountTold}
+use Rattle.clock.specs.Timing.{place_of, Counted, PlaceTold, CountTold}
 use Rattle.plan.specs.declared.record.Record.{Record}
 use Rattle.plan.specs.declared.streams.Stream.{Stream}
 use Rattle.plan.specs.Cycle.{cycle_of}

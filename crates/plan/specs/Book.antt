@@ -1,6 +1,6 @@
 -- The book of a plan: what a plan is, and the step that each call makes. Assumes nothing.
 use Rattle.std.specs.Prelude.{◌≡◌, ℕ, Bool, true, false, List, [], ◌∷◌, ◌++◌, length, Some, None, Ok, Err, Option, Result}
-use Rattle.std.specs.List.{AllByRecursion as All}
+use Rattle.std.specs.List.{AllByRecursion}
 use Rattle.bus.specs.declared.refusal.Refusal.{Refusal}
 use Rattle.bus.specs.Refused.{Rules, answer}
 use Rattle.plan.specs.declared.record.Record.{Record}
@@ -82,7 +82,7 @@ tells Reopen new = None
 -- no rule applies
 pub record Accepted (b : Book) (call : Call) (told : Answer) (b' : Book) : Type 0 where
   pub may : b.settled ≡ settled_before call
-  pub allowed : All (λ rule. rule.0 ≡ false) (rules_of call b.records)
+  pub allowed : AllByRecursion (λ rule. rule.0 ≡ false) (rules_of call b.records)
   pub makes : Makes call b.records b'.records
   pub tells : told ≡ tells call b'.records
   pub leaves : b'.settled ≡ settled_after call

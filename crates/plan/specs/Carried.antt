@@ -1,11 +1,10 @@
 -- The traffic of a plan keeps the limits and the laws. Assumes nothing.
-use Rattle.std.specs.Prelude.{◌≡◌, ℕ, zero, suc, ◌+◌, ◌*◌, ◌<◌, ◌≤◌, max, Bool, true, false, cond, not, ◌&&◌, ◌||◌, List, [], ◌∷◌, ◌++◌, length, fold, ◌==◌, slice_index_or, refl}
+use Rattle.std.specs.Prelude.{◌≡◌, ℕ, zero, suc, ◌<◌, ◌≤◌, max, true, false, cond, not, List, [], ◌∷◌, ◌++◌, length, fold, ◌==◌, slice_index_or, refl}
 use Rattle.std.proofs.Common.{sym, ap, subst, ◌∙◌, inl, inr, arith}
-use Rattle.std.specs.List.{AllByRecursion as All}
+use Rattle.std.specs.List.{AllByRecursion}
 use Rattle.std.proofs.ByRecursion.{All-append, All-get_or, All-weaker}
 use Rattle.std.proofs.lemmas.Bool.{and_parts, and_cases, or_parts, not-true, cond-true, cond-false, eq-eqb, ne_eqb, eqb-false}
-use Rattle.bus.specs.Frame as frame
-use Rattle.bus.specs.Meaning.{Meaning, Limits, Laws}
+use Rattle.bus.specs.Meaning.{Limits, Laws}
 use Rattle.clock.specs.declared.timing.Timing.{Timing}
 use Rattle.clock.specs.declared.timing.Timing.TheVariants.{Timed, Event}
 use Rattle.clock.specs.Multiple.{Divides}
@@ -17,22 +16,22 @@ use Rattle.plan.specs.declared.record.Record.{Record}
 use Rattle.plan.specs.declared.streams.Stream.{Stream}
 use Rattle.plan.specs.Record.{interval, intervals, within}
 use Rattle.plan.specs.Cycle.{all_within, periods_in, periods_at, periods, cycle_of}
-use Rattle.plan.specs.Open.{holds, apart, too_long}
+use Rattle.plan.specs.Open.{holds, apart}
 use Rattle.plan.specs.Streams.{stream_of, parts, streams_of, silent, turning, some_turn, reach_of, stream_at, traffic_of}
 use Rattle.plan.specs.Limited.{Fits, fits, interval_some, interval_most}
 use Rattle.plan.specs.Kept.{Sound, cycle_some, least_cycles, short_at, streams_few}
 
-all_both : {X : Type 0} (P Q : X → Type 0) (xs : List X) → All P xs → All Q xs → All (λ x. P x × Q x) xs
+all_both : {X : Type 0} (P Q : X → Type 0) (xs : List X) → AllByRecursion P xs → AllByRecursion Q xs → AllByRecursion (λ x. P x × Q x) xs
 all_both P Q [] p q = tt
 all_both P Q (x ∷ xs) p q = ((p.0, q.0), all_both P Q xs p.1 q.1)
 
-all_parts : {X : Type 0} (P : X → Type 0) (xs ys : List X) → All P (xs ++ ys) → All P xs × All P ys
+all_parts : {X : Type 0} (P : X → Type 0) (xs ys : List X) → AllByRecursion P (xs ++ ys) → AllByRecursion P xs × AllByRecursion P ys
 all_parts P [] ys h = (tt, h)
 all_parts P (x ∷ xs) ys h = let rest = all_parts P xs ys h.1 in ((h.0, rest.0), rest.1)
 
 -- ---- what is known of each record
 
-all_fit : (rs : List Record) → all_within rs ≡ true → All Fits rs
+all_fit : (rs : List Record) → all_within rs ≡ true → AllByRecursion Fits rs
 all_fit [] h = tt
 all_fit (r ∷ rs) h = let both = and_parts (within r) (all_within rs) h in (fits r both.0, all_fit rs both.1)
 
@@ -41,21 +40,21 @@ reach_grows a [] = omega arith
 reach_grows a (r ∷ rs) = let h = reach_grows (max a r.jitter) rs in omega arith
 
 -- no jitter is above the reach
-all_reached : (a : ℕ) (rs : List Record) → All (λ r. r.jitter ≤ fold (λ m x. max m x.jitter) a rs) rs
+all_reached : (a : ℕ) (rs : List Record) → AllByRecursion (λ r. r.jitter ≤ fold (λ m x. max m x.jitter) a rs) rs
 all_reached a [] = tt
 all_reached a (r ∷ rs) = ((let h = reach_grows (max a r.jitter) rs in omega arith), all_reached (max a r.jitter) rs)
 
-pub reach_small : (a b : ℕ) (rs : List Record) → a ≤ b → All (λ r. r.jitter ≤ b) rs → fold (λ m r. max m r.jitter) a rs ≤ b
+pub reach_small : (a b : ℕ) (rs : List Record) → a ≤ b → AllByRecursion (λ r. r.jitter ≤ b) rs → fold (λ m r. max m r.jitter) a rs ≤ b
 reach_small a b [] h all = h
 reach_small a b (r ∷ rs) h all = reach_small (max a r.jitter) b rs (let j = all.0 in omega arith) all.1
 
 -- a period divides what all periods of its node divide
-all_divide : (c : ℕ → ℕ) (rs : List Record) → ((n : ℕ) → All (λ t. Divides t (c n)) (periods n rs)) → All (λ r. All (λ t. Divides t (c r.node)) (periods_in r.kind)) rs
+all_divide : (c : ℕ → ℕ) (rs : List Record) → ((n : ℕ) → AllByRecursion (λ t. Divides t (c n)) (periods n rs)) → AllByRecursion (λ r. AllByRecursion (λ t. Divides t (c r.node)) (periods_in r.kind)) rs
 all_divide c [] h = tt
 all_divide c (r ∷ rs) h =
     let D : ℕ → ℕ → Type 0 = λ n t. Divides t (c n) in
     let here = (all_parts (D r.node) (periods_at r.node r) (periods r.node rs) (h r.node)).0 in (
-      subst (All (D r.node)) (cond-true (r.node == r.node) (periods_in r.kind) [] (eq-eqb r.node r.node refl)) here,
+      subst (AllByRecursion (D r.node)) (cond-true (r.node == r.node) (periods_in r.kind) [] (eq-eqb r.node r.node refl)) here,
       all_divide c rs (λ n. (all_parts (D n) (periods_at n r) (periods n rs) (h n)).1),
     )
 
@@ -64,7 +63,7 @@ abbrev sender : ℕ → List Record → ℕ
 sender identifier [] = 0
 sender identifier (r ∷ rs) = cond (r.identifier == identifier) r.node (sender identifier rs)
 
-sent_past : (x : Record) (rs ys : List Record) → holds x.identifier ys ≡ false → All (λ r. r.node ≡ sender r.identifier rs) ys → All (λ r. r.node ≡ sender r.identifier (x ∷ rs)) ys
+sent_past : (x : Record) (rs ys : List Record) → holds x.identifier ys ≡ false → AllByRecursion (λ r. r.node ≡ sender r.identifier rs) ys → AllByRecursion (λ r. r.node ≡ sender r.identifier (x ∷ rs)) ys
 sent_past x rs [] free h = tt
 sent_past x rs (y ∷ ys) free h =
     let other = or_parts (y.identifier == x.identifier) (holds x.identifier ys) free in (
@@ -73,7 +72,7 @@ sent_past x rs (y ∷ ys) free h =
     )
 
 -- where identifiers differ, each record's node is that of its identifier
-all_sent : (rs : List Record) → apart rs ≡ true → All (λ r. r.node ≡ sender r.identifier rs) rs
+all_sent : (rs : List Record) → apart rs ≡ true → AllByRecursion (λ r. r.node ≡ sender r.identifier rs) rs
 all_sent [] h = tt
 all_sent (r ∷ rs) h =
     let both = and_parts (not (holds r.identifier rs)) (apart rs) h in (
@@ -104,7 +103,7 @@ pub record Known (rs : List Record) (s : Stream) : Type 0 where
   pub cycled : Cycles (cycle_of s.node rs) s.timing
   pub sent : s.node ≡ sender s.identifier rs
 
-parts_known : (rs : List Record) (r : Record) (k : Kind) → intervals k ≡ true → All (λ t. Divides t (cycle_of r.node rs)) (periods_in k) → ((t : Timing) → Paced t → Brief t → Cycles (cycle_of r.node rs) t → Known rs (stream_of r t)) → All (Known rs) (parts r k)
+parts_known : (rs : List Record) (r : Record) (k : Kind) → intervals k ≡ true → AllByRecursion (λ t. Divides t (cycle_of r.node rs)) (periods_in k) → ((t : Timing) → Paced t → Brief t → Cycles (cycle_of r.node rs) t → Known rs (stream_of r t)) → AllByRecursion (Known rs) (parts r k)
 parts_known rs r (Periodic period offset) h d one = (one (Timed period offset) (interval_some period h) (interval_most period h) d.0, tt)
 parts_known rs r (Sporadic gap) h d one = (one (Event gap) (interval_some gap h) (interval_most gap h) tt, tt)
 parts_known rs r (Mixed period offset gap) h d one =
@@ -112,21 +111,21 @@ parts_known rs r (Mixed period offset gap) h d one =
     (one (Timed period offset) (interval_some period both.0) (interval_most period both.0) d.0, (one (Event gap) (interval_some gap both.1) (interval_most gap both.1) tt, tt))
 
 -- what holds of each record's streams holds of all
-each_stream : (P : Record → Type 0) (Q : Stream → Type 0) → ((r : Record) → P r → All Q (parts r r.kind)) → (rs : List Record) → All P rs → All Q (streams_of rs)
+each_stream : (P : Record → Type 0) (Q : Stream → Type 0) → ((r : Record) → P r → AllByRecursion Q (parts r r.kind)) → (rs : List Record) → AllByRecursion P rs → AllByRecursion Q (streams_of rs)
 each_stream P Q f [] h = tt
 each_stream P Q f (r ∷ rs) h = All-append Q (parts r r.kind) (streams_of rs) (f r h.0) (each_stream P Q f rs h.1)
 
 module _ (rs : List Record) (s : Sound rs) where
   Declared : Record → Type 0
-  Declared r = (Fits r × (r.jitter ≤ reach_of rs)) × (All (λ t. Divides t (cycle_of r.node rs)) (periods_in r.kind) × (r.node ≡ sender r.identifier rs))
+  Declared r = (Fits r × (r.jitter ≤ reach_of rs)) × (AllByRecursion (λ t. Divides t (cycle_of r.node rs)) (periods_in r.kind) × (r.node ≡ sender r.identifier rs))
 
-  all_declared : All Declared rs
+  all_declared : AllByRecursion Declared rs
   unfolding Declared
   all_declared =
       all_both _ _ rs (all_both Fits _ rs (all_fit rs s.within) (all_reached 0 rs))
       (all_both _ _ rs (all_divide (λ n. cycle_of n rs) rs (λ n. (least_cycles rs s.within n).common)) (all_sent rs s.distinct))
 
-  one_known : (r : Record) → Declared r → All (Known rs) (parts r r.kind)
+  one_known : (r : Record) → Declared r → AllByRecursion (Known rs) (parts r r.kind)
   unfolding Declared
   one_known r d =
       let f = d.0.0 in
@@ -142,7 +141,7 @@ module _ (rs : List Record) (s : Sound rs) where
         sent = d.1.1;
       })
 
-  pub all_known : All (Known rs) (streams_of rs)
+  pub all_known : AllByRecursion (Known rs) (streams_of rs)
   all_known = each_stream Declared (Known rs) one_known rs all_declared
 
   pub known : (i : ℕ) → i < length (streams_of rs) → Known rs (stream_at rs i)

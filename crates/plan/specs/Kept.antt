@@ -1,7 +1,7 @@
 -- The records stay sound, and what stands beside them in step, as a message is entered. Assumes nothing.
-use Rattle.std.specs.Prelude.{◌≡◌, ℕ, zero, suc, ◌+◌, ◌*◌, ◌<◌, ◌≤◌, max, Bool, true, false, cond, not, ◌&&◌, ◌||◌, List, [], ◌∷◌, ◌++◌, length, replicate, fold, ◌==◌, ◌≢◌, slice_index, slice_set, refl}
+use Rattle.std.specs.Prelude.{◌≡◌, ℕ, zero, suc, ◌*◌, ◌<◌, ◌≤◌, max, Bool, true, false, cond, not, List, [], ◌∷◌, ◌++◌, length, replicate, fold, ◌==◌, ◌≢◌, slice_index, slice_set, refl}
 use Rattle.std.proofs.Common.{sym, ap, subst, ◌∙◌, inl, inr, le_trans, lt_of_lt_of_le, arith}
-use Rattle.std.specs.List.{AllByRecursion as All}
+use Rattle.std.specs.List.{AllByRecursion}
 use Rattle.std.proofs.lemmas.List.{get_or-replicate, get_or-set_same, get_or-set_other, length-append, length_push, flat_map_more}
 use Rattle.std.proofs.ByRecursion.{All-append}
 use Rattle.std.proofs.lemmas.List.Sums.{fold_push}
@@ -43,18 +43,18 @@ within_at (r ∷ records) all (suc k) l = within_at records (and_parts (within r
 -- ---- cycles
 
 -- a period is not 0
-kind_some : (k : Kind) → intervals k ≡ true → All (λ t. 1 ≤ t) (periods_in k)
+kind_some : (k : Kind) → intervals k ≡ true → AllByRecursion (λ t. 1 ≤ t) (periods_in k)
 kind_some (Periodic period offset) h = (interval_some period h, tt)
 kind_some (Sporadic gap) h = tt
 kind_some (Mixed period offset gap) h = (interval_some period (and_parts (interval period) (interval gap) h).0, tt)
 
-pub periods_some : (n : ℕ) (rs : List Record) → all_within rs ≡ true → All (λ t. 1 ≤ t) (periods n rs)
+pub periods_some : (n : ℕ) (rs : List Record) → all_within rs ≡ true → AllByRecursion (λ t. 1 ≤ t) (periods n rs)
 periods_some n [] h = tt
 periods_some n (r ∷ rs) h =
     let both = and_parts (within r) (all_within rs) h in
     All-append (λ t. 1 ≤ t) (periods_at n r) (periods n rs) (here (r.node == n) both.0) (periods_some n rs both.1)
   where
-    here : (b : Bool) → within r ≡ true → All (λ t. 1 ≤ t) (cond b (periods_in r.kind) [])
+    here : (b : Bool) → within r ≡ true → AllByRecursion (λ t. 1 ≤ t) (cond b (periods_in r.kind) [])
     here true g = kind_some r.kind (fits r g).intervals
     here false g = tt
 

@@ -1,5 +1,5 @@
 -- What it says of a record that it is within its limits. Assumes nothing.
-use Rattle.std.specs.Prelude.{◌≡◌, ℕ, ◌<◌, ◌≤◌, true, nat_lt}
+use Rattle.std.specs.Prelude.{◌≡◌, ℕ, ◌≤◌, true, nat_lt}
 use Rattle.std.proofs.lemmas.Bool.{ltb-false, ltb-true, leb-true, and_parts, not-false}
 use Rattle.bus.proofs.Refusing.{rule_passed}
 use Rattle.plan.specs.declared.record.Record.{Record}

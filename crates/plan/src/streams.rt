@@ -1,6 +1,6 @@
 // The streams of the messages, in their order: what is asked of a traffic again and again.
 ghost use Rattle.std.specs.Prelude.{◌≡◌, ◌+◌, ◌*◌, ◌≤◌, true, [], ◌∷◌, ◌++◌, length, vec_len, vec_capacity};
-ghost use Rattle.std.specs.List.{AllByRecursion as All};
+ghost use Rattle.std.specs.List.{AllByRecursion};
 ghost use Rattle.clock.specs.Timing.{Paced};
 ghost use Rattle.plan.specs.Cycle.{all_within};
 ghost use Rattle.plan.specs.Record.{within};
@@ -118,7 +118,7 @@ pub(crate) fn soonest_turn(
     phase: u32,
     end: u32,
 ) -> Result<u32, Refusal>
-    requires paced { All (λ s. Paced s.timing) streams.now }
+    requires paced { AllByRecursion (λ s. Paced s.timing) streams.now }
     requires before { phase ≤ end }
     ensures { SoonestFound node phase end streams.now result }
 {

@@ -1,5 +1,5 @@
 use Rattle.std.proofs.Common.{arith}
-use Rattle.clock.proofs.Multiples.{gcd_some, lcm_none, lcm_found, least_multiples}
+use Rattle.clock.proofs.Multiples.{lcm_none, lcm_found, least_multiples}
 use Rattle.clock.proofs.multiple.lcm.Goals as goal
 
 pub returns : goal.returns

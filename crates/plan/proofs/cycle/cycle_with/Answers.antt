@@ -1,4 +1,4 @@
-use Rattle.std.proofs.Common.{◌≡◌, ◌≤◌, true, subst}
+use Rattle.std.proofs.Common.{◌≡◌, true, subst}
 use Rattle.std.proofs.lemmas.Bool.{and_parts}
 use Rattle.clock.proofs.Multiples.{lcm_is}
 use Rattle.plan.specs.Record.{interval, intervals}

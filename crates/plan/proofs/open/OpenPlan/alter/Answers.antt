@@ -76,7 +76,7 @@ pub invariant_of-self-in_default-cycles_of : goal.invariant_of-self-in_default-c
 invariant_of-self-in_default-cycles_of c =
     let p = c.args.self.now in
     let k = subst (λ (rs : List Record). Kept rs p.streams.items p.cycles p.reach) (sym (restored (goal.at.invariant_of-self-in_default-cycles_of c).In_default-cycles_of)) (kept p) in
-    (k.sound.few, (k.sound.within, (k.sound.distinct, (k.sound.short, (p.room, (k.carried, (p.space, (k.cycled, (k.reached, tt)))))))))
+    record { few = k.sound.few; within = k.sound.within; distinct = k.sound.distinct; short = k.sound.short; room = p.room; carried = k.carried; space = p.space; cycled = k.cycled; reached = k.reached }
 
 pub returns-in_default-cycles_of : goal.returns-in_default-cycles_of
 returns-in_default-cycles_of c =
@@ -95,7 +95,7 @@ invariant_of-self-2 c =
     let told = c.in-Some-cycles_of.ensures in
     let short : too_long (new h) ≡ false = subst (λ (x : List Record). too_long x ≡ false) c.deref-2.ensures.value told.1 in
     let s : Sound (new h) = altered_sound (held p) c.in-Some.at c.args.message (stands h) (sound p) (good h) short in
-    (s.few, (s.within, (s.distinct, (s.short, (p.room, (c.list_streams.ensures.items ∙ ap streams_of c.deref-3.ensures.value, (omega (arith, c.list_streams.ensures.capacity, p.space), (λ n l. told.0 n l ∙ ap (cycle_of n) c.deref-2.ensures.value, (c.largest_jitter-self.ensures ∙ ap reach_of c.deref-4.ensures.value, tt)))))))))
+    record { few = s.few; within = s.within; distinct = s.distinct; short = s.short; room = p.room; carried = c.list_streams.ensures.items ∙ ap streams_of c.deref-3.ensures.value; space = omega (arith, c.list_streams.ensures.capacity, p.space); cycled = λ n l. told.0 n l ∙ ap (cycle_of n) c.deref-2.ensures.value; reached = c.largest_jitter-self.ensures ∙ ap reach_of c.deref-4.ensures.value }
 
 pub returns : goal.returns
 returns c =

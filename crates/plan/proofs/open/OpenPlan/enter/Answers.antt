@@ -60,7 +60,7 @@ invariant_of-self c =
     let new = entered_kept rs c.args.self.now.streams.items c.args.self.now.cycles c.args.self.now.reach r (kept c.args.self.now) a.good a.free a.room a.short all in
     let k : Kept c.push_reserved.new.self.items c.push_streams.new.streams.items (set c.args.self.now.cycles r.node c.in_ok-cycle.cycle) c.max-self.result =
     rw (c.push_reserved.ensures.items, c.push_streams.ensures.items, is, c.max-self.ensures) new in
-    (k.sound.few, (k.sound.within, (k.sound.distinct, (k.sound.short, (omega (arith, c.push_reserved.ensures.capacity, c.args.self.now.room), (k.carried, (omega (arith, c.push_streams.ensures.capacity, c.args.self.now.space), (k.cycled, (k.reached, tt)))))))))
+    record { few = k.sound.few; within = k.sound.within; distinct = k.sound.distinct; short = k.sound.short; room = omega (arith, c.push_reserved.ensures.capacity, c.args.self.now.room); carried = k.carried; space = omega (arith, c.push_streams.ensures.capacity, c.args.self.now.space); cycled = k.cycled; reached = k.reached }
 
 pub returns : goal.returns
 returns c =

@@ -1,4 +1,4 @@
-use Rattle.std.proofs.Common.{◌≡◌, ℕ, [], replicate, arith}
+use Rattle.std.proofs.Common.{◌≡◌, ℕ, [], replicate}
 use Rattle.plan.specs.Kept.{Kept, none_kept}
 use Rattle.plan.proofs.open.OpenPlan.new.Goals as goal
 
@@ -9,4 +9,4 @@ invariant_of-result c =
     let none-held : c.in_ok-records.records.items ≡ [] = records.items in
     let none-carried : c.in_ok-streams.streams.items ≡ [] = streams.items in
     let k : Kept c.in_ok-records.records.items c.in_ok-streams.streams.items (replicate {A = ℕ} 16 1) 0 = rw (none-held, none-carried) none_kept in
-    (k.sound.few, (k.sound.within, (k.sound.distinct, (k.sound.short, (records.capacity, (k.carried, (streams.capacity, (k.cycled, (k.reached, tt)))))))))
+    record { few = k.sound.few; within = k.sound.within; distinct = k.sound.distinct; short = k.sound.short; room = records.capacity; carried = k.carried; space = streams.capacity; cycled = k.cycled; reached = k.reached }

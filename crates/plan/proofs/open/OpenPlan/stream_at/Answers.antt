@@ -1,4 +1,3 @@
-use Rattle.std.proofs.Common.{arith}
 use Rattle.plan.specs.Held.{held}
 use Rattle.plan.specs.Plans.{sound}
 use Rattle.plan.proofs.Found.{found_node, phase_past, phase_inside}

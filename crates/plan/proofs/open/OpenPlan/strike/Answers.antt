@@ -60,7 +60,7 @@ invariant_of-self-2 c =
     let p = c.args.self.now in
     let s : Sound c.remove.new.self.items = subst Sound (sym c.remove.ensures.items) (new_sound (goal.at.invariant_of-self-2 c).In-Some) in
     let cycles = subst (λ (o : Option (List ℕ)). CyclesAsked c.deref-2.result.now o) c.unwrap-self.ensures c.cycles_of.ensures in
-    (s.few, (s.within, (s.distinct, (s.short, (omega (arith, c.remove.ensures.capacity, p.room), (c.list_streams.ensures.items ∙ ap streams_of c.deref-3.ensures.value, (omega (arith, c.list_streams.ensures.capacity, p.space), (λ n l. cycles.0 n l ∙ ap (cycle_of n) c.deref-2.ensures.value, (c.largest_jitter-self.ensures ∙ ap reach_of c.deref-4.ensures.value, tt)))))))))
+    record { few = s.few; within = s.within; distinct = s.distinct; short = s.short; room = omega (arith, c.remove.ensures.capacity, p.room); carried = c.list_streams.ensures.items ∙ ap streams_of c.deref-3.ensures.value; space = omega (arith, c.list_streams.ensures.capacity, p.space); cycled = λ n l. cycles.0 n l ∙ ap (cycle_of n) c.deref-2.ensures.value; reached = c.largest_jitter-self.ensures ∙ ap reach_of c.deref-4.ensures.value }
 
 pub returns : goal.returns
 returns c =
