@@ -1,4 +1,2 @@
-pub mod Spanning
-pub mod Limited
 pub mod Noting
 pub mod Measuring

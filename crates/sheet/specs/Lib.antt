@@ -1,2 +1,5 @@
 pub mod Sender
 pub mod Sheet
+pub mod Spanning
+pub mod Limited
+pub mod Lawful

@@ -1,5 +1,5 @@
 -- The senders of a sheet: the traffic that they make, and what noting one more does. Assumes nothing.
-use Rattle.std.specs.Prelude.{◌≡◌, ℕ, ◌<◌, Bool, false, ◌||◌, List, [], ◌∷◌, ◌++◌, length, pos, ◌-ℤ◌, ◌==◌, ◌≢◌, nat_le, slice_index_or}
+use Rattle.std.specs.Prelude.{ℕ, ◌<◌, Bool, false, ◌||◌, List, [], ◌∷◌, ◌++◌, length, pos, ◌-ℤ◌, ◌==◌, ◌≢◌, nat_le, slice_index_or}
 use Rattle.bus.specs.declared.refusal.Refusal.TheVariants.{Held, Full}
 use Rattle.bus.specs.Refused.{Rules}
 use Rattle.bus.specs.Frame.{longest}

@@ -3,7 +3,7 @@ ghost use Rattle.std.specs.Prelude.{◌≡◌, ◌<◌, ◌≤◌, [], ◌∷◌
 ghost use Rattle.bus.specs.Asked.{Asked};
 ghost use Rattle.bus.specs.Refused.{Done};
 ghost use Rattle.sheet.specs.Sheet.{measured, sender_of, holds, note_rules, AllLawful, Apart};
-ghost use Rattle.std.proofs.Common.{rules, arith};
+ghost use Rattle.sheet.specs.Lawful.{measured_limits, measured_laws};
 
 use crate::sender::{MOST_NODE, Sender};
 use bus::frame::longest;
@@ -27,7 +27,7 @@ pub struct Sheet {
     ghost few: { length senders.items ≤ 64 },
     ghost lawful: { AllLawful senders.items },
     ghost apart: { Apart senders.items },
-    ghost largest: { reach ≡ (measured (senders.items)).reach },
+    ghost largest: { reach ≡ (measured senders.items).reach },
 }
 
 impl Sheet {
@@ -79,9 +79,9 @@ impl Sheet {
 impl Traffic for Sheet {
     ghost meaning = { λ sheet. measured sheet.senders.items };
 
-    ghost limits = { first_of (Prim.search rules, Prim.grind (arith, Self.row.coded.inj)) };
+    ghost limits = { λ sheet. measured_limits sheet.senders.items sheet.lawful sheet.few };
 
-    ghost laws = { first_of (Prim.search rules, Prim.grind (arith, Self.row.coded.inj)) };
+    ghost laws = { λ sheet. measured_laws sheet.senders.items sheet.lawful sheet.apart };
 
     fn streams(&self) -> u32 {
         self.senders.len() as u32

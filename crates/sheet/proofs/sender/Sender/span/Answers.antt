@@ -1,6 +1,6 @@
 use Rattle.std.proofs.Common.{◌≡◌, ◌+◌, ◌-◌, ◌*◌, ◌/◌, ◌%◌, ap, ◌∙◌, arith}
 use Rattle.sheet.specs.Sender.{span}
-use Rattle.sheet.proofs.Spanning.{span_given, span_turned}
+use Rattle.sheet.specs.Spanning.{span_given, span_turned}
 use Rattle.sheet.proofs.sender.Sender.span.Goals as goal
 use Rattle.sheet.proofs.sender.Sender.span.Goals.{then-later-eq0, else-later-eq0}
 

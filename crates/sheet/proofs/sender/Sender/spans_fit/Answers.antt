@@ -2,7 +2,7 @@ use Rattle.std.proofs.Common.{◌≡◌, ◌+◌, ◌<◌, ap, ◌∙◌, subst,
 use Rattle.std.proofs.lemmas.Bool.{false≢true, leb-true, le-leb}
 use Rattle.std.proofs.lemmas.Bool.Decides.{same_from_decides}
 use Rattle.sheet.specs.Sender.{span, spans_fit}
-use Rattle.sheet.proofs.Spanning.{Rising, span_given, spans_fit_tells}
+use Rattle.sheet.specs.Spanning.{Rising, span_given, spans_fit_tells}
 use Rattle.sheet.proofs.sender.Sender.spans_fit.Goals as goal
 
 pub loop-k-preserved : goal.loop-k-preserved

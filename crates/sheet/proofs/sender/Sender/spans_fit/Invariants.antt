@@ -1,6 +1,6 @@
 use Rattle.std.proofs.Common.{◌≡◌, ◌+◌}
 use Rattle.sheet.specs.Sender.{span}
-use Rattle.sheet.proofs.Spanning.{Rising}
+use Rattle.sheet.specs.Spanning.{Rising}
 use Rattle.sheet.proofs.sender.Sender.spans_fit.Given as goal
 
 abbrev pub invariant-loop-k : goal.invariant-loop-k

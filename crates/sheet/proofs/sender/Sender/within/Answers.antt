@@ -1,7 +1,7 @@
 use Rattle.std.proofs.Common.{◌≡◌, ◌+◌, ◌-◌, ◌*◌, ◌/◌, ◌%◌, ◌<◌, get_or, ap, ◌∙◌, mod-lt, div-add-mod', arith}
 use Rattle.sheet.specs.Sender.{span}
-use Rattle.sheet.proofs.Spanning.{span_given, span_turned}
-use Rattle.sheet.proofs.Limited.{fit}
+use Rattle.sheet.specs.Spanning.{span_given, span_turned}
+use Rattle.sheet.specs.Limited.{fit}
 use Rattle.sheet.proofs.sender.Sender.within.Goals as goal
 use Rattle.sheet.proofs.sender.Sender.within.Goals.{then-loop-held-test+else-self-held, else-loop-held-test}
 

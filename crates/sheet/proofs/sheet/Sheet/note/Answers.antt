@@ -19,4 +19,10 @@ invariant_of-self c =
     c.max-self.ensures ∙ ap (λ x. max x sender.jitter) old.largest ∙ sym (note_reach senders sender) ∙ ap (λ (xs : List Sender). (measured xs).reach) items in
     let long = length_push senders sender in
     let more = ap length items in
-    (omega arith, (omega arith, (subst AllLawful items (note_lawful senders sender old.lawful lawful), (subst Apart items (note_apart senders sender old.apart free), (largest, tt)))))
+    record {
+      room = omega arith;
+      few = omega arith;
+      lawful = subst AllLawful items (note_lawful senders sender old.lawful lawful);
+      apart = subst Apart items (note_apart senders sender old.apart free);
+      largest = largest;
+    }

@@ -4,7 +4,7 @@ use Rattle.std.proofs.lemmas.Bool.{ltb-false, not-false}
 use Rattle.bus.proofs.Refusing.{none_applies}
 use Rattle.sheet.specs.declared.sender.Sender.{Sender}
 use Rattle.sheet.specs.Sender.{span, spans_fit, limits, Lawful}
-use Rattle.sheet.proofs.Spanning.{Rising, spans_fit_tells}
+use Rattle.sheet.specs.Spanning.{Rising, spans_fit_tells}
 
 pub record Fit (s : Sender) : Type 0 where
   pub identifier_fits : s.identifier ≤ 2047
