@@ -6,7 +6,7 @@ use Rattle.bus.specs.Meaning.{Meaning, Limits, Laws}
 use Rattle.bus.specs.Run.{Instance, at, leads, ahead, reduced, phase_of}
 use Rattle.bus.proofs.Adding.{sum_grows, only_implied}
 use Rattle.bus.proofs.Growing.{later}
-use Rattle.bus.proofs.Leading.{Leads, leads_true, true_leads}
+use Rattle.bus.proofs.Leading.{leads_true, true_leads}
 use Rattle.bus.proofs.Phases.{phase_below}
 use Rattle.delay.specs.Delayed.{delayed, earlier, Later, DelaysHold}
 use Rattle.delay.specs.Reducing.{reduced_twice}

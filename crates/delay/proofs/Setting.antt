@@ -1,5 +1,5 @@
 -- What no delay, and delays that are set, make of a traffic. Assumes nothing.
-use Rattle.std.proofs.Common.{◌≡◌, ℕ, zero, suc, ◌+◌, ◌%◌, ◌<◌, ◌≤◌, Bool, false, cond, ltb, leb, List, get_or, replicate, pos, ◌-ℤ◌, Ok, sym, refl, ap, ◌∙◌, subst, ⊎_elim, add-zero, mod-eq_of_lt, arith}
+use Rattle.std.proofs.Common.{◌≡◌, ℕ, zero, suc, ◌+◌, ◌%◌, ◌<◌, ◌≤◌, Bool, false, cond, ltb, leb, List, replicate, pos, ◌-ℤ◌, Ok, sym, refl, ap, ◌∙◌, subst, ⊎_elim, add-zero, mod-eq_of_lt, arith}
 use Rattle.std.proofs.lemmas.Int.{ints}
 use Rattle.std.proofs.lemmas.Bool.{le-leb, le-ltb, cases_Bool}
 use Rattle.bus.specs.Meaning.{Meaning, Limits, Laws}

@@ -1,4 +1,4 @@
-use Rattle.std.proofs.Common.{◌<◌, sym, arith}
+use Rattle.std.proofs.Common.{sym, arith}
 use Rattle.delay.specs.Reducing.{reduced_from}
 use Rattle.delay.proofs.delayed.back.Goals as goal
 
