@@ -1,7 +1,7 @@
 -- A verdict that is a bound is kept. Assumes nothing.
 use Rattle.std.proofs.Common.{ℕ, ◌<◌, List, length}
 use mathlib.Core.Logic.{∥∥₁_elim}
-use denote.Struct.Props.{≤ℤ_prop}
+use denote.Struct.Props.{props}
 use Rattle.plan.specs.declared.record.Record.{Record}
 use Rattle.plan.specs.Held.{record_at}
 use Rattle.plan.specs.Streams.{traffic_of}
@@ -17,7 +17,7 @@ use Rattle.settled.specs.Figures.{figure_at, Known}
 use Rattle.settled.specs.Holding.{holding, VerdictHolds, FiguresHold}
 
 pub verdict_holds : (records : List Record) → Sound records → (message : Record) (v : Verdict) → Known (traffic_of records) message v → VerdictHolds records message.identifier v
-verdict_holds records sound message (Bound b judgement) so = λ i known named base run r keeps k of. ∥∥₁_elim so ≤ℤ_prop (λ is.
+verdict_holds records sound message (Bound b judgement) so = λ i known named base run r keeps k of. ∥∥₁_elim so (hlevel props) (λ is.
     let delivers = verdict_delivers (traffic_of records) (limits_of records sound) (laws_of records sound) message.identifier message.due (Bound b judgement) is in
     as_declared records sound i b (delivers i (record { known = known; is = named })) base run r keeps k of)
 verdict_holds records sound message Unsettled so = tt

@@ -1,8 +1,8 @@
 -- One more figure. Assumes nothing.
-use Rattle.std.proofs.Common.{◌≡◌, ℕ, ◌+◌, ◌<◌, ◌≢◌, List, length, set, sym, ◌∙◌, subst, inl, inr, arith, length-set, get_or-set_other, get_or-set_same}
+use Rattle.std.proofs.Common.{◌≡◌, ℕ, ◌+◌, ◌<◌, ◌≢◌, List, length, set, ◌∙◌, inl, inr, arith, length-set, get_or-set_other, get_or-set_same}
 use Rattle.std.proofs.lemmas.Bool.{cases_lt}
 use Rattle.verdict.specs.declared.Verdict.{Verdict}
-use Rattle.settled.specs.Figures.{figure_at, no_figure}
+use Rattle.settled.specs.Figures.{figure_at}
 
 -- the figures of the first few places are true
 abbrev pub Filled : (ℕ → Verdict → Type 0) → ℕ → List Verdict → Type 0
