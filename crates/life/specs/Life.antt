@@ -9,17 +9,17 @@ use Rattle.verdict.specs.declared.Verdict.{Verdict}
 use Rattle.settled.specs.declared.settled.calls.Row.{Row}
 use Rattle.settled.specs.Holding.{holding, FiguresHold, VerdictAsked, RowAsked}
 use Rattle.life.specs.declared.life.Call.{Call}
-use Rattle.life.specs.declared.life.Call.TheVariants.{Enter, Alter, Strike, Settle, Reopen, Verdict as Verdict-call, Row as Row-call}
+use Rattle.life.specs.declared.life.Call.TheVariants.{Enter, Alter, Strike, Settle, Reopen, Verdict as VerdictCall, Row as RowCall}
 use Rattle.life.specs.declared.life.Answer.{Answer}
 use Rattle.life.specs.declared.life.Answer.TheVariants.{Held, Refused, Settled, Open, Told}
 use Rattle.life.specs.declared.life.Plan.{Plan}
-use Rattle.life.specs.declared.life.Plan.TheVariants.{Open as Open-plan, Settled as Settled-plan}
+use Rattle.life.specs.declared.life.Plan.TheVariants.{Open as PlanOpen, Settled as PlanSettled}
 use Rattle.life.specs.declared.life.Life.{Life}
 
 -- the book of a plan
 abbrev pub book_of : Plan → Book
-book_of (Open-plan p) = open_book (held p)
-book_of (Settled-plan s) = settled_book (holding s)
+book_of (PlanOpen p) = open_book (held p)
+book_of (PlanSettled s) = settled_book (holding s)
 
 -- reopen, verdict and row come only while the book is settled, the others only while it is open
 abbrev pub while_settled : Call → Bool
@@ -28,8 +28,8 @@ while_settled (Alter message) = false
 while_settled (Strike identifier) = false
 while_settled Settle = false
 while_settled Reopen = true
-while_settled (Verdict-call identifier) = true
-while_settled (Row-call position) = true
+while_settled (VerdictCall identifier) = true
+while_settled (RowCall position) = true
 
 abbrev pub MayCome : Book → Call → Type 0
 MayCome b call = b.settled ≡ while_settled call
@@ -74,8 +74,8 @@ Works b (Alter message) a b' = Counted b (book.Alter message) a b'
 Works b (Strike identifier) a b' = Counted b (book.Strike identifier) a b'
 Works b Settle a b' = Made b book.Settle Settled a b'
 Works b Reopen a b' = Made b book.Reopen Open a b'
-Works b (Verdict-call identifier) a b' = Read (λ records r. VerdictAsked records identifier r) (verdict_told identifier) b a b'
-Works b (Row-call position) a b' = Read (λ records r. RowAsked records position r) row_told b a b'
+Works b (VerdictCall identifier) a b' = Read (λ records r. VerdictAsked records identifier r) (verdict_told identifier) b a b'
+Works b (RowCall position) a b' = Read (λ records r. RowAsked records position r) row_told b a b'
 
 -- or it may not come, and gets none
 abbrev pub Worked : Book → Call → Option Answer → Book → Type 0
@@ -112,8 +112,8 @@ Goes calls answers (Some place) b = Stops calls answers place b
 -- the verdicts of a plan that is settled are those defined for the records in its book, and each that is a bound is kept in
 -- every run that keeps what those records declare
 abbrev pub Figured : Plan → Type 0
-Figured (Open-plan p) = Unit {0}
-Figured (Settled-plan s) = FiguresHold s
+Figured (PlanOpen p) = Unit {0}
+Figured (PlanSettled s) = FiguresHold s
 
 pub record Lived (calls : List Call) (life : Life) : Type 0 where
   pub goes : Goes calls (vec_items life.answers) life.misplaced (book_of life.plan)

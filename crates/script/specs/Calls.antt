@@ -8,17 +8,17 @@ use Rattle.life.specs.declared.life.Call.{Call}
 use Rattle.life.specs.declared.life.Call.TheVariants.{Enter, Alter, Strike, Settle, Reopen, Verdict, Row}
 use Rattle.script.specs.declared.calls.Script.{Script}
 use Rattle.script.specs.declared.words.Word.{Word}
-use Rattle.script.specs.declared.words.Word.TheVariants.{Enter as Enter-word, Alter as Alter-word, Strike as Strike-word, Settle as Settle-word, Reopen as Reopen-word, Verdict as Verdict-word, Row as Row-word}
+use Rattle.script.specs.declared.words.Word.TheVariants.{Enter as EnterWord, Alter as AlterWord, Strike as StrikeWord, Settle as SettleWord, Reopen as ReopenWord, Verdict as VerdictWord, Row as RowWord}
 use Rattle.script.specs.Words.{word_text}
 
 abbrev pub word_of : Call → Word
-word_of (Enter message) = Enter-word
-word_of (Alter message) = Alter-word
-word_of (Strike identifier) = Strike-word
-word_of Settle = Settle-word
-word_of Reopen = Reopen-word
-word_of (Verdict identifier) = Verdict-word
-word_of (Row position) = Row-word
+word_of (Enter message) = EnterWord
+word_of (Alter message) = AlterWord
+word_of (Strike identifier) = StrikeWord
+word_of Settle = SettleWord
+word_of Reopen = ReopenWord
+word_of (Verdict identifier) = VerdictWord
+word_of (Row position) = RowWord
 
 -- a number that closes its line
 abbrev pub number_line : ℕ → List ℕ

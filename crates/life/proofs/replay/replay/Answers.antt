@@ -11,7 +11,7 @@ returns-in-None c = record { goes = stops_at c.args.calls.now c.loop-place.place
 
 pub loop-place-preserved : goal.loop-place-preserved
 loop-place-preserved c =
-    subst (λ (answers : List Answer). Lives (take (c.loop-place.place + 1) c.args.calls.now) answers (book_of c.work-left.result.0)) (sym c.in_ok-push.ensures.items)
+    subst (λ (answers : List Answer). Lives (take (c.loop-place.place + 1) c.args.calls.now) answers (book_of c.work-left.result.0)) (sym c.in_ok-push-in-Some.ensures.items)
     (lives_on c.args.calls.now c.loop-place.place _ c.loop-place-test.true _ _ c.loop-place.invariant _ _ c.work-left.ensures c.in-Some.answer c.in-Some.is)
 
 pub returns : goal.returns
