@@ -1,5 +1,5 @@
 -- A number that is read before a line feed stands there. Assumes nothing.
-use Rattle.std.proofs.Common.{◌≡◌, ℕ, ◌+◌, ◌≤◌, List, [], ◌∷◌, ◌++◌, length, drop, Ok, Err, decimal, Result, sym, refl, ap, ◌∙◌, subst, append_assoc, arith, length-append}
+use Rattle.std.proofs.Common.{◌≡◌, ℕ, ◌≤◌, List, [], ◌∷◌, ◌++◌, length, drop, Ok, Err, decimal, Result, sym, refl, ap, ◌∙◌, subst, append_assoc, arith, length-append}
 use Rattle.plan.specs.declared.record.Kind.TheVariants.{Sporadic}
 use Rattle.plan.specs.declared.record.Record.{Record}
 use Rattle.line.specs.declared.line.LineFault.{LineFault}
@@ -7,7 +7,7 @@ use Rattle.line.specs.declared.tokens.Mark.TheVariants.{Feed}
 use Rattle.line.specs.Line.{Short}
 use Rattle.line.specs.Forms.{shared, Form, end, number, Text}
 use Rattle.line.specs.Expect.{Gives}
-use Rattle.line.specs.Number.{ReadsNumber, NumberRead}
+use Rattle.line.specs.Number.{NumberRead}
 use Rattle.line.proofs.Sharing.{shared_from_whole, front_from_shared}
 
 -- a record that tells the number

@@ -5,7 +5,7 @@ use Rattle.std.proofs.lemmas.List.{get_or-drop, drop_more}
 use Rattle.line.specs.declared.tokens.Mark.{Mark}
 use Rattle.line.specs.declared.tokens.Mark.TheVariants.{Open, Close, Space, Feed}
 use Rattle.line.specs.declared.tokens.Token.{Token}
-use Rattle.line.specs.declared.tokens.Token.TheVariants.{Mark as Mark-token, Word, Number}
+use Rattle.line.specs.declared.tokens.Token.TheVariants.{Mark as MarkToken, Word, Number}
 use Rattle.line.specs.Tokens.{Letter, Digit, byte_of, Stands, TokenStands, BeginsNone}
 use Rattle.line.specs.Expect.{Missed}
 use Rattle.line.proofs.Sharing.{shared_none}
@@ -41,18 +41,18 @@ first_of P [] some all h = absurd (omega arith)
 first_of P {s} {at} (c ∷ w) some all h = subst P (sym (ap (λ u. get_or u 0 0) h.is) ∙ first_byte s at) all.0
 
 -- only a mark begins with the byte of a mark, only a word with a letter, and only a number with a digit
-pub not_mark : (s : List ℕ) (at : ℕ) (token : Token) (mark : Mark) → TokenStands s at token → (token ≡ Mark-token mark → ⊥) → get_or s at 0 ≡ byte_of mark → ⊥
-not_mark s at (Mark-token other) mark h n e = n (ap Mark-token (mark_same (sym h ∙ e)))
+pub not_mark : (s : List ℕ) (at : ℕ) (token : Token) (mark : Mark) → TokenStands s at token → (token ≡ MarkToken mark → ⊥) → get_or s at 0 ≡ byte_of mark → ⊥
+not_mark s at (MarkToken other) mark h n e = n (ap MarkToken (mark_same (sym h ∙ e)))
 not_mark s at (Word w) mark h n e = omega (arith, (mark_below mark).1, (first_of Letter w.now h.some h.letters h.stands).0)
 not_mark s at (Number w) mark h n e = omega (arith, (mark_below mark).1, (first_of Digit w.now h.numeral.some h.numeral.all h.stands).0)
 
 pub not_letter : (s : List ℕ) (at : ℕ) (token : Token) → TokenStands s at token → ((w : _) → token ≡ Word w → ⊥) → Letter (get_or s at 0) → ⊥
-not_letter s at (Mark-token mark) h n l = omega (arith, (mark_below mark).1, l.0)
+not_letter s at (MarkToken mark) h n l = omega (arith, (mark_below mark).1, l.0)
 not_letter s at (Word w) h n l = n w refl
 not_letter s at (Number w) h n l = omega (arith, l.0, (first_of Digit w.now h.numeral.some h.numeral.all h.stands).1)
 
 pub not_digit : (s : List ℕ) (at : ℕ) (token : Token) → TokenStands s at token → ((w : _) → token ≡ Number w → ⊥) → Digit (get_or s at 0) → ⊥
-not_digit s at (Mark-token mark) h n d = omega (arith, (mark_below mark).1, d.0)
+not_digit s at (MarkToken mark) h n d = omega (arith, (mark_below mark).1, d.0)
 not_digit s at (Word w) h n d = omega (arith, d.1, (first_of Letter w.now h.some h.letters h.stands).0)
 not_digit s at (Number w) h n d = n w refl
 

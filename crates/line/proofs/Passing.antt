@@ -5,7 +5,7 @@ use Rattle.std.proofs.lemmas.Result.{err_from_is_err_and}
 use Rattle.plan.specs.declared.record.Record.{Record}
 use Rattle.line.specs.declared.line.LineFault.{LineFault}
 use Rattle.line.specs.Tokens.{byte_of, Stands}
-use Rattle.line.specs.Forms.{shared, Form, end, given, number, choice, Text, reach, Leads, Leaves, Passes, Fault}
+use Rattle.line.specs.Forms.{shared, Form, end, given, number, choice, Text, Leads, Leaves, Passes, Fault}
 use Rattle.line.specs.Expect.{Asked, Missed, Skips, Gives, either}
 use Rattle.line.proofs.Sharing.{shared_append, shared_short, shared_none}
 

@@ -1,6 +1,6 @@
 -- What it is to read what a line asks for at a place. Assumes nothing.
 use Rattle.std.specs.Prelude.{◌≡◌, ℕ, ◌<◌, Bool, true, false, List, [], ◌∷◌, ◌++◌, length, drop, Ok, Err, Result}
-use Rattle.std.specs.List.{AllByRecursion as All}
+use Rattle.std.specs.List.{AllByRecursion}
 use Rattle.line.specs.declared.line.LineFault.{LineFault}
 use Rattle.line.specs.declared.tokens.Mark.{Mark}
 use Rattle.line.specs.declared.tokens.Mark.TheVariants.{Close}
@@ -10,7 +10,7 @@ use Rattle.line.specs.Forms.{shared, Form, given, number, choice, reach, Passes,
 -- a word as it may be asked for
 pub record Asked (w : List ℕ) : Type 0 where
   pub some : 0 < length w
-  pub letters : All Letter w
+  pub letters : AllByRecursion Letter w
 
 -- the bytes w do not stand at `at`: another byte, or the end, comes first at p
 pub record Missed (w s : List ℕ) (at p : ℕ) : Type 0 where

@@ -1,6 +1,6 @@
 -- The line of a record, and what it is to read one. Assumes nothing.
 use Rattle.std.specs.Prelude.{◌≡◌, ℕ, ◌^◌, ◌<◌, ◌≤◌, List, [], ◌∷◌, ◌++◌, length, take, drop, Ok, Err, codes, decimal, Result}
-use Rattle.std.specs.List.{flat_map, AllByRecursion as All}
+use Rattle.std.specs.List.{flat_map, AllByRecursion}
 use Rattle.plan.specs.declared.record.Kind.{Kind}
 use Rattle.plan.specs.declared.record.Kind.TheVariants.{Periodic, Sporadic, Mixed}
 use Rattle.plan.specs.declared.record.Record.{Record}
@@ -38,7 +38,7 @@ Short n = n < 10 ^ 10
 
 -- the line of a record is lawful if each of its numbers has at most ten digits
 abbrev pub Lawful : Record → Type 0
-Lawful r = All Short (numbers r)
+Lawful r = AllByRecursion Short (numbers r)
 
 -- the text begins with the lawful line of r
 pub record LineStands (s : List ℕ) (r : Record) : Type 0 where

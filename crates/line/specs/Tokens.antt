@@ -1,11 +1,11 @@
 -- The tokens of a text: which bytes each one takes. A place past the end reads as byte 0, with which no token begins. Assumes nothing.
 use Rattle.std.specs.Prelude.{◌≡◌, ℕ, ◌+◌, ◌<◌, ◌≤◌, Bool, ◌⊎◌, List, ◌++◌, length, drop, Ok, Err, MatchBool, Result, ◌≢◌, slice_index, slice_index_or}
-use Rattle.std.specs.List.{AllByRecursion as All}
+use Rattle.std.specs.List.{AllByRecursion}
 use Rattle.line.specs.declared.line.LineFault.{LineFault}
 use Rattle.line.specs.declared.tokens.Mark.{Mark}
 use Rattle.line.specs.declared.tokens.Mark.TheVariants.{Open, Close, Space, Feed}
 use Rattle.line.specs.declared.tokens.Token.{Token}
-use Rattle.line.specs.declared.tokens.Token.TheVariants.{Mark as Mark-token, Word, Number}
+use Rattle.line.specs.declared.tokens.Token.TheVariants.{Mark as MarkToken, Word, Number}
 use Rattle.line.specs.declared.tokens.Placed.{Placed}
 
 abbrev pub Letter : ℕ → Type 0
@@ -22,7 +22,7 @@ byte_of Feed = 10
 
 -- one to ten digits, and no 0 before another
 pub record Numeral (digits : List ℕ) : Type 0 where
-  pub all : All Digit digits
+  pub all : AllByRecursion Digit digits
   pub some : 0 < length digits
   pub short : length digits ≤ 10
   pub lone : slice_index_or digits 0 0 ≡ 48 → length digits ≡ 1
@@ -34,7 +34,7 @@ pub record Stands (w s : List ℕ) (at n : ℕ) : Type 0 where
 
 -- the word w stands at `at`, and no letter after it
 pub record WordStands (s : List ℕ) (at : ℕ) (w : List ℕ) : Type 0 where
-  pub letters : All Letter w
+  pub letters : AllByRecursion Letter w
   pub some : 0 < length w
   pub stands : Stands w s at (at + length w)
   pub stops : Letter (slice_index s (at + length w)) → ⊥
@@ -46,13 +46,13 @@ pub record NumberStands (s : List ℕ) (at : ℕ) (w : List ℕ) : Type 0 where
   pub stops : Digit (slice_index s (at + length w)) → (slice_index w 0 ≡ 48) ⊎ (length w ≡ 10)
 
 abbrev pub TokenStands : List ℕ → ℕ → Token → Type 0
-TokenStands s at (Mark-token mark) = slice_index s at ≡ byte_of mark
+TokenStands s at (MarkToken mark) = slice_index s at ≡ byte_of mark
 TokenStands s at (Word w) = WordStands s at w.now
 TokenStands s at (Number w) = NumberStands s at w.now
 
 -- whether the token is that mark
 abbrev pub Is : Token → Mark → Bool → Type 0
-Is token wanted r = MatchBool r (token ≡ Mark-token wanted) (token ≢ Mark-token wanted)
+Is token wanted r = MatchBool r (token ≡ MarkToken wanted) (token ≢ MarkToken wanted)
 
 -- no token begins with c
 pub record BeginsNone (c : ℕ) : Type 0 where

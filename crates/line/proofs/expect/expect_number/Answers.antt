@@ -15,14 +15,14 @@ returns-in_err-placed c =
     let none = c.in_err-placed.ensures in
     fault_gives (number c.args.after) _ c.from_residual.ensures.1 (rw none.0 (λ K. no_number none.1.digit))
 
-pub returns-in_err-end : goal.returns-in_err-end
-returns-in_err-end c = fault_gives (number c.args.after) _ c.from_residual-in_err-end.ensures.1 (λ K. fault_number (found (goal.at.returns-in_err-end c).In-Number) c.in_err-end.ensures)
+pub returns-in_err-end-in-Number : goal.returns-in_err-end-in-Number
+returns-in_err-end-in-Number c = fault_gives (number c.args.after) _ c.from_residual-in_err-end-in-Number.ensures.1 (λ K. fault_number (found (goal.at.returns-in_err-end-in-Number c).In-Number) c.in_err-end-in-Number.ensures)
 
 pub value_of-requires : goal.value_of-requires
 value_of-requires c = (found (goal.at.value_of-requires c).In-Number).numeral
 
-pub returns-in_ok-end : goal.returns-in_ok-end
-returns-in_ok-end c = rw c.value_of.ensures (λ K. pass_number (found (goal.at.returns-in_ok-end c).In-Number) c.in_ok-end.ensures)
+pub returns-in_ok-end-in-Number : goal.returns-in_ok-end-in-Number
+returns-in_ok-end-in-Number c = rw c.value_of.ensures (λ K. pass_number (found (goal.at.returns-in_ok-end-in-Number c).In-Number) c.in_ok-end-in-Number.ensures)
 
 pub returns-in_default : goal.returns-in_default
 returns-in_default c =
