@@ -1,6 +1,6 @@
 -- What an answer tells of the rules of its call. Assumes nothing.
 use Rattle.std.proofs.Common.{◌≡◌, Bool, true, false, cond, [], ◌∷◌, ◌++◌, is_ok, Ok, Err, Result, sym, refl, ap}
-use Rattle.std.specs.List.{AllByRecursion as All}
+use Rattle.std.specs.List.{AllByRecursion}
 use Rattle.std.proofs.lemmas.Bool.{false≢true}
 use Rattle.bus.specs.declared.refusal.Refusal.{Refusal}
 use Rattle.bus.specs.Refused.{Rules, answer}
@@ -11,7 +11,7 @@ rule_passed true e rest h = absurd (false≢true h)
 rule_passed false e rest h = (refl, h)
 
 -- a call that is not refused meets no rule
-pub none_applies : {A : Type 0} (rules : Rules) (v : A) → is_ok (answer rules v) ≡ true → All (λ rule. rule.0 ≡ false) rules
+pub none_applies : {A : Type 0} (rules : Rules) (v : A) → is_ok (answer rules v) ≡ true → AllByRecursion (λ rule. rule.0 ≡ false) rules
 none_applies [] v passed = tt
 none_applies (rule ∷ rules) v passed =
     let p = rule_passed rule.0 rule.1 (answer rules v) passed in

@@ -1,7 +1,7 @@
 -- The least common multiple: its laws, from its being the least. Assumes nothing.
 use Rattle.std.proofs.Common.{◌≡◌, ℕ, zero, suc, ◌+◌, ◌-◌, ◌*◌, ◌/◌, ◌%◌, ◌<◌, ◌≤◌, Bool, true, false, eqb, List, [], ◌∷◌, fold, sym, refl, ap, ◌∙◌, subst, inl, inr, add-zero, mod-lt, mul_assoc, mul_comm, mul-le-mul_left, mul-pos, mul-zero, zero-mul, mul-one, mul-add, mul_left_comm, arith}
 use native.Mathlib.Nat.{mul-sub, mul-mod_right, div-add-mod, eq_of_mul-eq-mul_left, mul-div_cancel_left, zero-div}
-use Rattle.std.specs.List.{AllByRecursion as All}
+use Rattle.std.specs.List.{AllByRecursion}
 use Rattle.std.proofs.lemmas.Bool.{cond_both, eqb-true, eqb-false, eq-eqb, cases_eq, cases_lt}
 use Rattle.clock.specs.Multiple.{first_from, lcm_steps, lcm, lcm_of, Divides, GreatestCommon, LeastCommon, LeastMultiples}
 
@@ -157,10 +157,10 @@ lcm_found a (suc b) g pa h = let some : 1 ≤ suc b = omega arith in rw (lcm_by_
 record MultipleFrom (c : ℕ) (ns : List ℕ) (m : ℕ) : Type 0 where
   some : 1 ≤ m
   from : Divides c m
-  common : All (λ n. Divides n m) ns
-  least : (k : ℕ) → Divides c k → All (λ n. Divides n k) ns → Divides m k
+  common : AllByRecursion (λ n. Divides n m) ns
+  least : (k : ℕ) → Divides c k → AllByRecursion (λ n. Divides n k) ns → Divides m k
 
-multiple_from : (ns : List ℕ) (c : ℕ) → 1 ≤ c → All (λ n. 1 ≤ n) ns → MultipleFrom c ns (fold lcm c ns)
+multiple_from : (ns : List ℕ) (c : ℕ) → 1 ≤ c → AllByRecursion (λ n. 1 ≤ n) ns → MultipleFrom c ns (fold lcm c ns)
 multiple_from [] c pc all = record { some = pc; from = divides_self c; common = tt; least = λ k d _. d }
 multiple_from (n ∷ ns) c pc all =
     let pair : LeastCommon (c ∷ n ∷ []) (lcm c n) = lcm_pair c n pc all.0 in
@@ -176,7 +176,7 @@ multiple_from (n ∷ ns) c pc all =
 one : 1 ≤ 1
 one = omega arith
 
-pub lcm_of_some : (ns : List ℕ) → All (λ n. 1 ≤ n) ns → 1 ≤ lcm_of ns
+pub lcm_of_some : (ns : List ℕ) → AllByRecursion (λ n. 1 ≤ n) ns → 1 ≤ lcm_of ns
 lcm_of_some ns all = (multiple_from ns 1 one all).some
 
 pub least_multiples : LeastMultiples

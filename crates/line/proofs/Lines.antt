@@ -1,6 +1,6 @@
 -- The texts of the form of a line are the lawful lines, so what the form says of a text is what the lines say. Assumes nothing.
 use Rattle.std.proofs.Common.{◌≡◌, ℕ, ◌≤◌, List, [], ◌∷◌, ◌++◌, length, drop, IsErrAnd, codes, decimal, Result, sym, refl, ap, ◌∙◌, subst, subst₂, inl, inr, ⊎_elim, arith, take-append-drop}
-use Rattle.std.specs.List.{flat_map, AllByRecursion as All}
+use Rattle.std.specs.List.{flat_map, AllByRecursion}
 use Rattle.std.proofs.lemmas.Result.{err_from_is_err_and}
 use Rattle.plan.specs.declared.record.Kind.{Kind}
 use Rattle.plan.specs.declared.record.Kind.TheVariants.{Periodic, Sporadic, Mixed}
@@ -44,7 +44,7 @@ tail jitter due = flat_map (λ part. part) (decimal jitter ∷ codes ") (due " �
 tail_text : (identifier node bytes : ℕ) (k : Kind) (jitter due : ℕ) → Short jitter → Short due → Text (line_rest identifier node bytes k) (record { identifier = identifier; node = node; bytes = bytes; kind = k; jitter = jitter; due = due }) (tail jitter due)
 tail_text identifier node bytes k jitter due g h = (jitter, _, g, refl, (_, refl, (_, refl, (due, _, h, refl, (_, refl, (_, refl, (refl, refl)))))))
 
-kind_text : (K : Kind → Form) (r : Record) (k : Kind) (jitter due : ℕ) → All Short (kind_numbers k) → Text (K k) r (tail jitter due) → Text (kind_form K) r (flat_map (λ part. part) (kind_parts k ++ (codes " (jitter " ∷ decimal jitter ∷ codes ") (due " ∷ decimal due ∷ codes "))\n" ∷ [])))
+kind_text : (K : Kind → Form) (r : Record) (k : Kind) (jitter due : ℕ) → AllByRecursion Short (kind_numbers k) → Text (K k) r (tail jitter due) → Text (kind_form K) r (flat_map (λ part. part) (kind_parts k ++ (codes " (jitter " ∷ decimal jitter ∷ codes ") (due " ∷ decimal due ∷ codes "))\n" ∷ [])))
 kind_text K r (Periodic period offset) jitter due d x =
     (_, refl, inl (_, refl, (period, _, d.0, refl, (offset, _, d.1.0, refl, (_, refl, (_, refl, inr (_, refl, x)))))))
 kind_text K r (Sporadic gap) jitter due d x = (_, refl, inr (_, refl, (gap, _, d.0, refl, (_, refl, (_, refl, x)))))

@@ -1,6 +1,6 @@
 -- What a token says of the byte that stands at its place. Assumes nothing.
 use Rattle.std.proofs.Common.{◌≡◌, ℕ, ◌+◌, ◌<◌, cond, eqb, List, [], ◌∷◌, length, get_or, drop, sym, refl, ap, ◌∙◌, subst, add-zero, arith}
-use Rattle.std.specs.List.{AllByRecursion as All}
+use Rattle.std.specs.List.{AllByRecursion}
 use Rattle.std.proofs.lemmas.List.{get_or-drop, drop_more}
 use Rattle.line.specs.declared.tokens.Mark.{Mark}
 use Rattle.line.specs.declared.tokens.Mark.TheVariants.{Open, Close, Space, Feed}
@@ -36,7 +36,7 @@ pub first_byte : (s : List ℕ) (at : ℕ) → get_or (drop at s) 0 0 ≡ get_or
 first_byte s at = get_or-drop at s 0 0 ∙ ap (λ k. get_or s k 0) (add-zero at)
 
 -- the first byte of a part
-first_of : (P : ℕ → Type 0) {s : List ℕ} {at n : ℕ} (w : List ℕ) → 0 < length w → All P w → Stands w s at n → P (get_or s at 0)
+first_of : (P : ℕ → Type 0) {s : List ℕ} {at n : ℕ} (w : List ℕ) → 0 < length w → AllByRecursion P w → Stands w s at n → P (get_or s at 0)
 first_of P [] some all h = absurd (omega arith)
 first_of P {s} {at} (c ∷ w) some all h = subst P (sym (ap (λ u. get_or u 0 0) h.is) ∙ first_byte s at) all.0
 

@@ -1,7 +1,7 @@
 -- The texts of numbers: none goes along farther than the longest number that stands there. Assumes nothing.
 use Rattle.std.proofs.Common.{◌≡◌, ℕ, suc, ◌+◌, ◌-◌, ◌*◌, ◌^◌, ◌<◌, ◌≤◌, ◌⊎◌, List, [], ◌∷◌, ◌++◌, length, get_or, take, drop, decimal, sym, refl, ap, ◌∙◌, subst, ap₂, inl, inr, ⊎_elim, arith, length-append, length-take, rules}
 use Rattle.std.specs.Str.Parse.{digits_value}
-use Rattle.std.specs.List.{AllByRecursion as All}
+use Rattle.std.specs.List.{AllByRecursion}
 use Rattle.std.specs.Char.{digit_value as digitValue}
 use Rattle.std.proofs.lemmas.Bool.{cases_eq, le-ltb, lt-ltb}
 use Rattle.std.proofs.lemmas.Int.Digits.{digits_value_more}
@@ -18,8 +18,8 @@ use Rattle.line.proofs.Marks.{mark_below, first_byte}
 use Rattle.line.proofs.Sharing.{shared_none, shared_step}
 use Rattle.line.proofs.Passing.{pass, stop, pass_given, fault_given, fault_apart, Narrows, narrow_passes, narrow_faults}
 
-own : IsNumeralModel (All Digit) (digits_value 10)
-own = let tells : IsDigitsTest (All Digit) = search rules in numerals_by_value (All Digit) tells
+own : IsNumeralModel (AllByRecursion Digit) (digits_value 10)
+own = let tells : IsDigitsTest (AllByRecursion Digit) = search rules in numerals_by_value (AllByRecursion Digit) tells
 
 -- a number of up to ten digits is written by a numeral, and only by that
 pub numeral_of : (n : ℕ) → Short n → Numeral (decimal n)
@@ -37,7 +37,7 @@ numeral_is : {ds : List ℕ} → Numeral ds → decimal (digits_value 10 ds) ≡
 numeral_is {ds} h = decimal-digits_value own ds h.all h.some h.lone (omega (arith, short_value h))
 
 -- digits ys and a byte that is none, beside digits xs and what comes after: where xs does not go on as ys does, the two share no more than xs
-along : (xs ys : List ℕ) (c : ℕ) (u s : List ℕ) → All Digit xs → All Digit ys → (Digit c → ⊥) → ((y : ℕ) (zs : List ℕ) → ys ≡ xs ++ y ∷ zs → get_or s 0 0 ≡ y → ⊥) → (ys ≡ xs) ⊎ ((shared (ys ++ c ∷ u) (xs ++ s) ≤ length xs) × (shared (ys ++ c ∷ u) (xs ++ s) < length (ys ++ c ∷ u)))
+along : (xs ys : List ℕ) (c : ℕ) (u s : List ℕ) → AllByRecursion Digit xs → AllByRecursion Digit ys → (Digit c → ⊥) → ((y : ℕ) (zs : List ℕ) → ys ≡ xs ++ y ∷ zs → get_or s 0 0 ≡ y → ⊥) → (ys ≡ xs) ⊎ ((shared (ys ++ c ∷ u) (xs ++ s) ≤ length xs) × (shared (ys ++ c ∷ u) (xs ++ s) < length (ys ++ c ∷ u)))
 along [] [] c u s a b no_digit ends = inl refl
 along [] (y ∷ ys) c u s a b no_digit ends = let none = shared_none y (ys ++ c ∷ u) s (ends y ys refl) in inr (omega arith, omega arith)
 along (x ∷ xs) [] c u s a b no_digit ends = let none = shared_none c u (x ∷ (xs ++ s)) (λ e. no_digit (subst Digit e a.0)) in inr (omega arith, omega arith)

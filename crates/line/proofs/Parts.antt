@@ -1,6 +1,6 @@
 -- A part of the text, as a token hands it out, and what is asked for beside it. Assumes nothing.
 use Rattle.std.proofs.Common.{◌≡◌, ℕ, ◌+◌, ◌-◌, ◌<◌, ◌≤◌, ◌⊎◌, List, [], ◌∷◌, ◌++◌, length, get_or, take, drop, sym, refl, ap, ◌∙◌, subst, ap₂, inl, inr, append-nil, add-zero, arith, length-append, length-drop}
-use Rattle.std.specs.List.{AllByRecursion as All}
+use Rattle.std.specs.List.{AllByRecursion}
 use Rattle.std.proofs.ByRecursion.{All-from_get_or}
 use Rattle.std.proofs.lemmas.List.Prefix.{at_from_reads}
 use Rattle.std.proofs.lemmas.List.{drop_all, get_or-drop, get_or-take, length-take-le}
@@ -15,7 +15,7 @@ record Part (P : ℕ → Type 0) (s : List ℕ) (at end : ℕ) (w : List ℕ) : 
   stands : Stands w s at (at + length w)
   ends : at + length w ≡ end
   first : get_or w 0 0 ≡ get_or s at 0
-  all : All P w
+  all : AllByRecursion P w
 
 module _ (s : List ℕ) (at end : ℕ) (some : at < end) (within : end ≤ length s) where
   part : (P : ℕ → Type 0) → ((k : ℕ) → at ≤ k → k < end → P (get_or s k 0)) → Part P s at end (take (end - at) (drop at s))

@@ -1,6 +1,6 @@
 -- The laws of the beginning that two texts share. Assumes nothing.
 use Rattle.std.proofs.Common.{◌≡◌, ℕ, suc, ◌+◌, ◌<◌, ◌≤◌, ◌⊎◌, List, [], ◌∷◌, ◌++◌, length, get_or, take, drop, sym, refl, ap, ◌∙◌, ap₂, inl, inr, ⊎_elim, append-nil, arith, take-append-drop}
-use Rattle.std.specs.List.{AllByRecursion as All}
+use Rattle.std.specs.List.{AllByRecursion}
 use Rattle.std.proofs.lemmas.Bool.{cases_eq, cases_lt, eq-eqb, ne_eqb}
 use Rattle.std.proofs.lemmas.List.{length-take-le, take_all, drop_more, drop_all}
 use Rattle.line.specs.Forms.{shared}
@@ -83,7 +83,7 @@ shared_no_more n t s ends =
     (cases_lt n (length t))
 
 -- a word w and its space, beside a whole word v that is another
-pub shared_words : (w v more : List ℕ) → All Letter w → All Letter v → (Letter (get_or more 0 0) → ⊥) → (shared w v < length w) ⊎ (shared w v < length v) → shared (w ++ 32 ∷ []) (v ++ more) ≡ shared w v
+pub shared_words : (w v more : List ℕ) → AllByRecursion Letter w → AllByRecursion Letter v → (Letter (get_or more 0 0) → ⊥) → (shared w v < length w) ⊎ (shared w v < length v) → shared (w ++ 32 ∷ []) (v ++ more) ≡ shared w v
 shared_words [] [] more a b stop u = absurd (⊎_elim (λ h. omega arith) (λ h. omega arith) u)
 shared_words [] (x ∷ v) more a b stop u = shared_none 32 [] (x ∷ (v ++ more)) (λ e. omega (arith, b.0.0))
 shared_words (y ∷ w) [] more a b stop u = shared_none y (w ++ 32 ∷ []) more (λ e. stop (rw e a.0))

@@ -1,6 +1,6 @@
 -- What an open plan has done is a step of its book. Assumes nothing.
 use Rattle.std.proofs.Common.{◌≡◌, ℕ, Bool, true, false, ◌||◌, eqb, List, [], ◌∷◌, ◌++◌, length, is_ok, Some, Ok, Err, Result, sym, refl, ap, ◌∙◌, inl, inr}
-use Rattle.std.specs.List.{AllByRecursion as All}
+use Rattle.std.specs.List.{AllByRecursion}
 use Rattle.std.proofs.lemmas.Bool.{cases_Bool, cond-true, cond-false, eqb-true, false≢true, not-false}
 use Rattle.bus.specs.declared.refusal.Refusal.{Refusal}
 use Rattle.bus.specs.Refused.{Rules, answer, Done}
@@ -14,7 +14,7 @@ use Rattle.plan.proofs.Walked.{all_parts}
 
 -- none of the rules applies to a call that is not refused
 abbrev Allowed : Rules → Type 0
-Allowed rules = All (λ rule. rule.0 ≡ false) rules
+Allowed rules = AllByRecursion (λ rule. rule.0 ≡ false) rules
 
 told : (rules : Rules) (n m : ℕ) → Ok n ≡ answer rules m → n ≡ m
 told rules n m h = let passed = answer_passed rules m m (sym (ap is_ok h)) in cc

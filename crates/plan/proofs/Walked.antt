@@ -1,6 +1,6 @@
 -- A walk over records that works out what stands beside them. Assumes nothing.
 use Rattle.std.proofs.Common.{◌≡◌, ℕ, zero, suc, ◌+◌, ◌<◌, ◌≤◌, true, List, [], ◌∷◌, ◌++◌, length, take, fold, sym, ap, ◌∙◌, subst}
-use Rattle.std.specs.List.{remove, AllByRecursion as All}
+use Rattle.std.specs.List.{remove, AllByRecursion}
 use Rattle.std.proofs.ByRecursion.{All-append}
 use Rattle.std.proofs.lemmas.List.{take_more, flat_map_more}
 use Rattle.clock.specs.Multiple.{Divides, lcm, lcm_of}
@@ -13,16 +13,16 @@ use Rattle.plan.specs.Kept.{periods_some, cycle_here, cycle_elsewhere}
 
 -- ---- fewer messages have no longer a cycle
 
-pub all_parts : {A : Type 0} (P : A → Type 0) (xs ys : List A) → All P (xs ++ ys) → All P xs × All P ys
+pub all_parts : {A : Type 0} (P : A → Type 0) (xs ys : List A) → AllByRecursion P (xs ++ ys) → AllByRecursion P xs × AllByRecursion P ys
 all_parts P [] ys h = (tt, h)
 all_parts P (x ∷ xs) ys h = let rest = all_parts P xs ys h.1 in ((h.0, rest.0), rest.1)
 
-fewer_multiples : (ns ms : List ℕ) → All (λ t. 1 ≤ t) ms → ((P : ℕ → Type 0) → All P ms → All P ns) → lcm_of ns ≤ lcm_of ms
+fewer_multiples : (ns ms : List ℕ) → AllByRecursion (λ t. 1 ≤ t) ms → ((P : ℕ → Type 0) → AllByRecursion P ms → AllByRecursion P ns) → lcm_of ns ≤ lcm_of ms
 fewer_multiples ns ms some part =
     divides_le (lcm_of ns) (lcm_of ms) (lcm_of_some ms some)
     ((least_multiples ns (part (λ t. 1 ≤ t) some)).least (lcm_of ms) (part (λ t. Divides t (lcm_of ms)) (least_multiples ms some).common))
 
-periods_take : (n : ℕ) (rs : List Record) (k : ℕ) (P : ℕ → Type 0) → All P (periods n rs) → All P (periods n (take k rs))
+periods_take : (n : ℕ) (rs : List Record) (k : ℕ) (P : ℕ → Type 0) → AllByRecursion P (periods n rs) → AllByRecursion P (periods n (take k rs))
 periods_take n [] zero P h = tt
 periods_take n [] (suc k) P h = tt
 periods_take n (r ∷ rs) zero P h = tt
@@ -30,7 +30,7 @@ periods_take n (r ∷ rs) (suc k) P h =
     let both = all_parts P (periods_at n r) (periods n rs) h in
     All-append P (periods_at n r) (periods n (take k rs)) both.0 (periods_take n rs k P both.1)
 
-periods_removed : (n : ℕ) (rs : List Record) (k : ℕ) (P : ℕ → Type 0) → All P (periods n rs) → All P (periods n (remove rs k))
+periods_removed : (n : ℕ) (rs : List Record) (k : ℕ) (P : ℕ → Type 0) → AllByRecursion P (periods n rs) → AllByRecursion P (periods n (remove rs k))
 periods_removed n [] zero P h = tt
 periods_removed n [] (suc k) P h = tt
 periods_removed n (r ∷ rs) zero P h = (all_parts P (periods_at n r) (periods n rs) h).1

@@ -1,6 +1,6 @@
 -- What is read at the beginning of a text, and the calls that have been read. Assumes nothing.
 use Rattle.std.proofs.Common.{◌≡◌, ℕ, ◌-◌, ◌<◌, ◌≤◌, List, [], ◌∷◌, ◌++◌, length, take, drop, sym, refl, ap, ◌∙◌, subst, append_assoc, arith, length-append, length-drop}
-use Rattle.std.specs.List.{flat_map, AllByRecursion as All}
+use Rattle.std.specs.List.{flat_map, AllByRecursion}
 use Rattle.std.proofs.ByRecursion.{All-push}
 use Rattle.std.proofs.lemmas.List.{flat_map_more, take_all}
 use Rattle.life.specs.declared.life.Call.{Call}
@@ -18,7 +18,7 @@ module _ {A : Type 0} (Allowed : A → Type 0) (text : A → List ℕ) (s : List
 
 -- these calls have been read, and the rest has not
 pub record Gone (text : List ℕ) (calls : List Call) (rest : List ℕ) : Type 0 where
-  pub lawful : All LawfulCall calls
+  pub lawful : AllByRecursion LawfulCall calls
   pub is : text ≡ flat_map call_line calls ++ rest
 
 pub gone_more : (text : List ℕ) (calls : List Call) (s : List ℕ) (call : Call) (rest : List ℕ) → Gone text calls s → Begins LawfulCall call_line s call rest → Gone text (calls ++ call ∷ []) rest

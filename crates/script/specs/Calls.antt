@@ -1,7 +1,7 @@
 -- The line of a call, and what it is to read calls. Assumes nothing.
 use Rattle.std.specs.Prelude.{◌≡◌, ℕ, ◌<◌, Bool, true, false, List, [], ◌∷◌, ◌++◌, length, Some, None, vec_items, decimal, Option, ◌≢◌}
 use Rattle.std.specs.Borrow.{Bor}
-use Rattle.std.specs.List.{flat_map, AllByRecursion as All}
+use Rattle.std.specs.List.{flat_map, AllByRecursion}
 use Rattle.plan.specs.declared.record.Record.{Record}
 use Rattle.line.specs.Line.{line_of, Short, Lawful}
 use Rattle.life.specs.declared.life.Call.{Call}
@@ -80,7 +80,7 @@ Ends false rest = (0 < length rest) × NoCall rest
 
 -- the text consists of the lines of these calls and of what is left
 pub record CallsRead (text : List ℕ) (calls : List Call) (whole : Bool) : Type 0 where
-  pub lawful : All LawfulCall calls
+  pub lawful : AllByRecursion LawfulCall calls
   pub rest : List ℕ
   pub is : text ≡ flat_map call_line calls ++ rest
   pub ends : Ends whole rest

@@ -1,6 +1,6 @@
 -- What it is to read a table into a plan. Assumes nothing.
 use Rattle.std.specs.Prelude.{◌≡◌, ℕ, ◌+◌, ◌<◌, ◌≤◌, ◌⊎◌, List, [], ◌∷◌, ◌++◌, length, drop, Ok, Err, Result}
-use Rattle.std.specs.List.{flat_map, AllByRecursion as All}
+use Rattle.std.specs.List.{flat_map, AllByRecursion}
 use Rattle.bus.specs.declared.refusal.Refusal.{Refusal}
 use Rattle.bus.specs.declared.refusal.Refusal.TheVariants.{Identifier, Node, Bytes, Period, Offset, Jitter, Due, Line, Text, Question, Delay, Spans, Held, NotHeld, Full, Cycle, Reach}
 use Rattle.bus.specs.Refused.{answer}
@@ -80,7 +80,7 @@ LineEntered old text line (Err fault) new = LineFault old text line fault × (ne
 
 -- the text begins with the lawful lines of these messages, which the plan took in one after another
 pub record LinesTaken (old : List Record) (text : List ℕ) (messages : List Record) (rest : List ℕ) (new : List Record) : Type 0 where
-  pub lawful : All Lawful messages
+  pub lawful : AllByRecursion Lawful messages
   pub is : text ≡ flat_map line_of messages ++ rest
   pub takes : TakesAll old messages
   pub held : new ≡ old ++ messages

@@ -1,6 +1,6 @@
 -- Worked examples: small traffics, and what is to be found in them. Assumes nothing.
 use Rattle.std.specs.Prelude.{◌≡◌, ℕ, ◌<◌, List, [], ◌∷◌, ℤ, pos}
-use Rattle.std.specs.List.{AllByRecursion as All}
+use Rattle.std.specs.List.{AllByRecursion}
 use Rattle.bus.specs.Frame as frame
 use Rattle.bus.specs.Meaning.{Meaning}
 use Rattle.bus.specs.Bound.{IsBound}
@@ -83,4 +83,4 @@ examples =
     ∷ []
 
 abbrev pub ExamplesHold : Type 0
-ExamplesHold = All Holds examples
+ExamplesHold = AllByRecursion Holds examples

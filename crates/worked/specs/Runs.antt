@@ -1,6 +1,6 @@
 -- Runs of two messages, which keep what the messages declare. Assumes nothing.
 use Rattle.std.specs.Prelude.{ℕ, cond, List, [], ◌∷◌, ℤ, pos, negsuc, ◌==◌}
-use Rattle.std.specs.List.{AllByRecursion as All}
+use Rattle.std.specs.List.{AllByRecursion}
 use Rattle.bus.specs.Run.{Instance, IsRun}
 use Rattle.plan.specs.declared.record.Record.{Record}
 use Rattle.plan.specs.Streams.{traffic_of}
@@ -38,4 +38,4 @@ together = record {
 }
 
 abbrev pub RunsKept : Type 0
-RunsKept = All Kept (apart ∷ together ∷ [])
+RunsKept = AllByRecursion Kept (apart ∷ together ∷ [])

@@ -13,7 +13,7 @@ loop-rest-smaller c = shorter c.loop-rest.rest.now c.in-Some.call c.in-Some.afte
 
 pub loop-rest-preserved : goal.loop-rest-preserved
 loop-rest-preserved c =
-    subst (λ (calls : List Call). Gone c.args.text.now calls c.in-Some.after.now) (sym c.in_ok-push.ensures.items)
+    subst (λ (calls : List Call). Gone c.args.text.now calls c.in-Some.after.now) (sym c.in_ok-push-in-Some.ensures.items)
     (gone_more c.args.text.now (vec_items c.loop-rest.calls) c.loop-rest.rest.now c.in-Some.call c.in-Some.after.now c.loop-rest.invariant c.in-Some.ensures)
 
 pub returns : goal.returns
