@@ -1,4 +1,4 @@
-use Rattle.std.proofs.Common.{◌≡◌, ℕ, ◌+◌, ◌≤◌, List, [], ◌∷◌, ◌++◌, length, get_or, take, string_bytes, sym, ap, ◌∙◌, ap₂, arith}
+use Rattle.std.proofs.Common.{◌≤◌, List, [], ◌++◌, length, take, sym, ap, ◌∙◌, ap₂, arith}
 use Rattle.std.specs.List.{flat_map}
 use Rattle.std.proofs.lemmas.List.{take_all, take_more, flat_map_more}
 use Rattle.life.specs.declared.life.Answer.{Answer}

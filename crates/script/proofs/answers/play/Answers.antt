@@ -1,4 +1,4 @@
-use Rattle.std.proofs.Common.{◌≡◌, ℕ, List, ◌++◌, vec_items, vec_len, string_bytes, sym, ap, ◌∙◌, subst, ap₂}
+use Rattle.std.proofs.Common.{◌≡◌, List, ◌++◌, vec_items, vec_len, string_bytes, ap, ◌∙◌, subst, ap₂}
 use Rattle.std.specs.List.{flat_map}
 use Rattle.life.specs.declared.life.Answer.{Answer}
 use Rattle.life.specs.declared.life.Call.{Call}

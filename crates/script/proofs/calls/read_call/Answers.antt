@@ -1,6 +1,6 @@
-use Rattle.std.proofs.Common.{sym, ◌∙◌, subst, append_assoc}
+use Rattle.std.proofs.Common.{◌∙◌, append_assoc}
 use Rattle.script.specs.Words.{word_text}
-use Rattle.script.specs.Calls.{word_of, argument_text, CallRead}
+use Rattle.script.specs.Calls.{word_of, argument_text}
 use Rattle.script.proofs.calls.read_call.Goals as goal
 
 pub returns-in_err-word : goal.returns-in_err-word

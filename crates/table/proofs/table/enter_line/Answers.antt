@@ -1,4 +1,4 @@
-use Rattle.std.proofs.Common.{◌≡◌, ℕ, ◌+◌, List, [], ◌∷◌, ◌++◌, length, is_ok, Ok, Err, sym, refl, ap, ◌∙◌, inl, inr}
+use Rattle.std.proofs.Common.{[], ◌∷◌, ◌++◌, length, is_ok, sym, refl, ap, inr}
 use Rattle.bus.proofs.Refusing.{answer_passed, answer_refused}
 use Rattle.plan.specs.Held.{held}
 use Rattle.plan.specs.Open.{enter_rules}
