@@ -24,7 +24,7 @@ place_is g c = let asked = c.in_ok-place.ensures.answered (c.requires.profile.kn
 pub returns-then-place-from : goal.returns-then-place-from
 returns-then-place-from g c =
     let at = goal.at.returns-then-place-from g c in
-    let late : pos c.in-Some.window <ℤ c.in_ok-place.place = grind (arith, ints) in
+    let late : pos c.in-Some.window <ℤ c.in_ok-place.place = omega (arith, ints, c.from.ensures) in
     record {
       worst = listing_end _ (g.met.T.Traffic.limits c.args.traffic.now) c.args.profile.now.stream c.args.phase c.requires.profile.known c.requires.phase _ _ _ _ c.loop-window.invariant.0
           (settling g at.In-Some)
