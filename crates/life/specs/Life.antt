@@ -1,5 +1,5 @@
 -- The life of a plan: the calls that are made of it, what each gets for an answer, and the book that they leave. Assumes nothing.
-use Rattle.std.specs.Prelude.{◌≡◌, ℕ, Bool, true, false, List, [], ◌∷◌, ◌++◌, length, Some, None, Ok, Err, vec_items, Option, Result}
+use Rattle.std.specs.Prelude.{◌≡◌, ℕ, Bool, true, false, List, [], ◌∷◌, ◌++◌, length, Some, None, Ok, Err, IfOk, vec_items, Option, Result}
 use Rattle.bus.specs.declared.refusal.Refusal.{Refusal}
 use Rattle.plan.specs.Book as book
 use Rattle.plan.specs.Book.{Book, open_book, settled_book, first_book, Step}
@@ -7,7 +7,7 @@ use Rattle.plan.specs.declared.record.Record.{Record}
 use Rattle.plan.specs.Held.{held}
 use Rattle.verdict.specs.declared.Verdict.{Verdict}
 use Rattle.settled.specs.declared.settled.calls.Row.{Row}
-use Rattle.settled.specs.Holding.{holding, FiguresHold, VerdictAsked, RowAsked}
+use Rattle.settled.specs.Holding.{holding, FiguresHold, VerdictHolds, VerdictAsked, RowAsked}
 use Rattle.life.specs.declared.life.Call.{Call}
 use Rattle.life.specs.declared.life.Call.TheVariants.{Enter, Alter, Strike, Settle, Reopen, Verdict as VerdictCall, Row as RowCall}
 use Rattle.life.specs.declared.life.Answer.{Answer}
@@ -74,8 +74,8 @@ Works b (Alter message) a b' = Counted b (book.Alter message) a b'
 Works b (Strike identifier) a b' = Counted b (book.Strike identifier) a b'
 Works b Settle a b' = Made b book.Settle Settled a b'
 Works b Reopen a b' = Made b book.Reopen Open a b'
-Works b (VerdictCall identifier) a b' = Read (λ records r. VerdictAsked records identifier r) (verdict_told identifier) b a b'
-Works b (RowCall position) a b' = Read (λ records r. RowAsked records position r) row_told b a b'
+Works b (VerdictCall identifier) a b' = Read (λ records r. VerdictAsked records identifier r × IfOk r (λ v. VerdictHolds records identifier v)) (verdict_told identifier) b a b'
+Works b (RowCall position) a b' = Read (λ records r. RowAsked records position r × IfOk r (λ row. VerdictHolds records row.identifier row.verdict)) row_told b a b'
 
 -- or it may not come, and gets none
 abbrev pub Worked : Book → Call → Option Answer → Book → Type 0

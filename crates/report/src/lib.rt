@@ -3,7 +3,7 @@
 
 ghost use Rattle.std.specs.Prelude.{◌≡◌, ◌++◌, IfOk, string_bytes};
 ghost use Rattle.report.specs.Report.{row_text, Reports};
-ghost use Rattle.settled.specs.Holding.{holding};
+ghost use Rattle.settled.specs.Holding.{holding, VerdictsHold};
 
 use settled::settled::SettledPlan;
 use std::alloc::{AllocError, Global};
@@ -28,7 +28,8 @@ pub fn row_text(heap: Global, identifier: u64, verdict: Verdict) -> Result<Strin
 
 // A line for each message that the plan holds, in rising identifier.
 pub fn report(heap: Global, plan: &SettledPlan) -> Result<String, AllocError>
-    ensures { IfOk result (λ text. Reports (holding plan.now) (string_bytes text)) }
+    ensures reports { IfOk result (λ text. Reports (holding plan.now) (string_bytes text)) }
+    ensures delivered { IfOk result (λ _. VerdictsHold (holding plan.now)) }
 {
     let mut text = String::new(heap);
     for identifier in 0..IDENTIFIERS {

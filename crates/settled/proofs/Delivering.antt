@@ -1,5 +1,5 @@
 -- A verdict that is a bound is kept. Assumes nothing.
-use Rattle.std.proofs.Common.{ℕ, ◌<◌, List, length}
+use Rattle.std.proofs.Common.{ℕ, ◌<◌, List, length, subst}
 use mathlib.Core.Logic.{∥∥₁_elim}
 use denote.Struct.Props.{props}
 use Rattle.plan.specs.declared.record.Record.{Record}
@@ -14,7 +14,7 @@ use Rattle.verdict.specs.declared.Verdict.TheVariants.{Bound, Unsettled}
 use Rattle.verdict.proofs.Delivers.{verdict_delivers}
 use Rattle.settled.specs.declared.settled.SettledPlan.{SettledPlan}
 use Rattle.settled.specs.Figures.{figure_at, Known}
-use Rattle.settled.specs.Holding.{holding, VerdictHolds, FiguresHold}
+use Rattle.settled.specs.Holding.{holding, VerdictHolds, FiguresHold, VerdictsHold}
 
 pub verdict_holds : (records : List Record) → Sound records → (message : Record) (v : Verdict) → Known (traffic_of records) message v → VerdictHolds records message.identifier v
 verdict_holds records sound message (Bound b judgement) so = λ i known named base run r keeps k of. ∥∥₁_elim so (hlevel props) (λ is.
@@ -28,3 +28,6 @@ figure_holds s k inside = verdict_holds (holding s) (sound s.plan) (record_at (h
 
 pub figures_hold : (s : SettledPlan) → FiguresHold s
 figures_hold s k inside = record { known = s.known k inside; delivered = figure_holds s k inside }
+
+pub verdicts_hold : (s : SettledPlan) → VerdictsHold (holding s)
+verdicts_hold s identifier v of = subst (λ (n : ℕ). VerdictHolds (holding s) n v) of.named (verdict_holds (holding s) (sound s.plan) of.message v of.known)

@@ -36,7 +36,6 @@ pub record VerdictOf (records : List Record) (identifier : ℕ) (v : Verdict) : 
   pub among : Among records message
   pub named : message.identifier ≡ identifier
   pub known : Known (traffic_of records) message v
-  pub delivered : VerdictHolds records identifier v
 
 abbrev pub VerdictAsked : List Record → ℕ → Result Verdict Refusal → Type 0
 VerdictAsked records identifier (Ok v) = VerdictOf records identifier v
@@ -47,8 +46,11 @@ pub record RowOf (records : List Record) (position : ℕ) (row : Row) : Type 0 w
   pub inside : position < length records
   pub named : row.identifier ≡ (record_at records position).identifier
   pub known : Known (traffic_of records) (record_at records position) row.verdict
-  pub delivered : VerdictHolds records row.identifier row.verdict
 
 abbrev pub RowAsked : List Record → ℕ → Result Row Refusal → Type 0
 RowAsked records position (Ok row) = RowOf records position row
 RowAsked records position (Err e) = (e ≡ Question) × (length records ≤ position)
+
+-- every verdict on one of the records that is a bound is kept
+abbrev pub VerdictsHold : List Record → Type 0
+VerdictsHold records = (identifier : ℕ) (v : Verdict) → VerdictOf records identifier v → VerdictHolds records identifier v

@@ -2,6 +2,7 @@
 use Rattle.std.specs.Prelude.{◌≡◌, ℕ, ◌⊎◌, List, [], ◌++◌, Err, codes, decimal}
 use Rattle.bus.specs.Refused.{number}
 use Rattle.plan.specs.declared.record.Record.{Record}
+use Rattle.settled.specs.Holding.{VerdictsHold}
 use Rattle.report.specs.Report.{Reports}
 use Rattle.table.specs.declared.table.Fault.{Fault}
 use Rattle.table.specs.declared.table.Layer.{Layer}
@@ -33,3 +34,13 @@ pub record Refused (table out : List ℕ) : Type 0 where
 
 abbrev pub Answers : List ℕ → List ℕ → Type 0
 Answers table out = Accepted table out ⊎ Refused table out
+
+-- every line was taken, the text is the report on those messages, and each bound that it tells is kept
+pub record Kept (table out : List ℕ) : Type 0 where
+  pub records : List Record
+  pub entered : TableEntered [] table records
+  pub reports : Reports records out
+  pub delivered : VerdictsHold records
+
+abbrev pub AnswersHold : List ℕ → List ℕ → Type 0
+AnswersHold table out = Kept table out ⊎ Refused table out

@@ -1,6 +1,6 @@
 // The answer to a table, as text: the verdicts on its messages, or the first fault.
 ghost use Rattle.std.specs.Prelude.{◌≡◌, IfOk, string_bytes};
-ghost use Rattle.table.specs.Answer.{fault_text, Answers};
+ghost use Rattle.table.specs.Answer.{fault_text, Answers, AnswersHold};
 
 use crate::table::{Fault, Layer, read_table};
 use plan::open::OpenPlan;
@@ -22,7 +22,8 @@ fn fault_text(heap: Global, fault: Fault) -> Result<String, AllocError>
 
 // Reads the table into a plan of its own, settles it and reports on it. It fails only for want of memory.
 pub fn answer(heap: Global, text: &[u8]) -> Result<String, AllocError>
-    ensures { IfOk result (λ out. Answers text.now (string_bytes out)) }
+    ensures answers { IfOk result (λ out. Answers text.now (string_bytes out)) }
+    ensures delivered { IfOk result (λ out. AnswersHold text.now (string_bytes out)) }
 {
     let mut plan = OpenPlan::new(heap)?;
     match read_table(&mut plan, text) {

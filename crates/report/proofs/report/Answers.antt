@@ -5,6 +5,7 @@ use Rattle.plan.specs.Limited.{fits}
 use Rattle.plan.specs.Plans.{sound}
 use Rattle.plan.specs.Kept.{within_at}
 use Rattle.settled.specs.Holding.{holding, VerdictOf}
+use Rattle.settled.proofs.Delivering.{verdicts_hold}
 use Rattle.report.specs.Report.{row_text, ReportsBelow}
 use Rattle.report.proofs.Lining.{reports_none, reports_past, reports_more}
 use Rattle.report.proofs.report.Goals as goal
@@ -19,16 +20,16 @@ loop-identifier-preserved c =
     let n = c.loop-identifier.identifier in
     elim c.match-verdict.branch [
       | in-Ok+in_ok-row_text-in-Ok+in_ok-push_str-in-Ok w ↦
-          let told : VerdictOf records n w.in-Ok.verdict = w.in-Ok.ensures in
+          let told : VerdictOf records n w.in-Ok.verdict = w.in-Ok.ensures.asked in
           let line : string_bytes w.in_ok-row_text-in-Ok.field-0 ≡ row_text n w.in-Ok.verdict = w.in_ok-row_text-in-Ok.ensures in
           let grown : string_bytes c.match-verdict.text ≡ string_bytes c.loop-identifier.text ++ row_text n w.in-Ok.verdict = ap string_bytes w.text-is ∙ w.in_ok-push_str-in-Ok.ensures.bytes ∙ ap (λ bytes. string_bytes c.loop-identifier.text ++ bytes) (w.deref.ensures ∙ line) in
           subst (ReportsBelow (n + 1) records) (sym grown) (reports_more records n w.in-Ok.verdict (string_bytes c.loop-identifier.text) told c.loop-identifier.invariant)
       | in-Err w ↦
-          subst (ReportsBelow (n + 1) records) (sym (ap string_bytes w.text-is)) (reports_past records n (string_bytes c.loop-identifier.text) w.in-Err.ensures.1 c.loop-identifier.invariant)
+          subst (ReportsBelow (n + 1) records) (sym (ap string_bytes w.text-is)) (reports_past records n (string_bytes c.loop-identifier.text) w.in-Err.ensures.asked.1 c.loop-identifier.invariant)
     ]
 
-pub returns : goal.returns
-returns c =
+pub returns-clause-reports : goal.returns-clause-reports
+returns-clause-reports c =
     let plan = c.args.plan.now.plan in
     let last : c.loop-identifier.identifier ≡ 2048 = omega arith in
     record {
@@ -38,3 +39,6 @@ returns c =
           let is = ap (λ (r : Record). r.identifier) among.is in
           omega arith;
     }
+
+pub returns-clause-delivered : goal.returns-clause-delivered
+returns-clause-delivered c = verdicts_hold c.args.plan.now

@@ -1,11 +1,11 @@
 // Settling, reading and reopening a plan.
-ghost use Rattle.std.specs.Prelude.{◌≡◌, ℕ, ◌<◌, true, length, None};
+ghost use Rattle.std.specs.Prelude.{◌≡◌, ℕ, ◌<◌, true, length, None, IfOk};
 ghost use Rattle.plan.specs.Book.{Step, Settle, Reopen, open_book, settled_book};
 ghost use Rattle.plan.specs.Held.{held};
 ghost use Rattle.plan.specs.Record.{within};
 ghost use Rattle.plan.specs.Streams.{traffic_of};
 ghost use Rattle.settled.specs.Figures.{Among};
-ghost use Rattle.settled.specs.Holding.{holding, FiguresHold, VerdictAsked, RowAsked};
+ghost use Rattle.settled.specs.Holding.{holding, FiguresHold, VerdictHolds, VerdictAsked, RowAsked};
 ghost use Rattle.verdict.specs.Judged.{VerdictIs};
 
 use super::{MOST_RECORDS, SettledPlan};
@@ -59,7 +59,8 @@ impl SettledPlan {
 
     // The verdict on the message with the identifier.
     pub fn verdict(&self, identifier: u64) -> Result<Verdict, Refusal>
-        ensures { VerdictAsked (holding self.now) identifier result }
+        ensures asked { VerdictAsked (holding self.now) identifier result }
+        ensures delivered { IfOk result (λ v. VerdictHolds (holding self.now) identifier v) }
     {
         for k in 0..self.plan.len() {
             if let Some(message) = self.plan.message(k) {
@@ -73,7 +74,8 @@ impl SettledPlan {
 
     // The message at a position, counted from 0, with its verdict.
     pub fn row(&self, position: usize) -> Result<Row, Refusal>
-        ensures { RowAsked (holding self.now) position result }
+        ensures asked { RowAsked (holding self.now) position result }
+        ensures delivered { IfOk result (λ row. VerdictHolds (holding self.now) row.identifier row.verdict) }
     {
         let Some(message) = self.plan.message(position) else {
             return Err(Refusal::Question);
