@@ -1,7 +1,6 @@
 // The streams of one node that can go before the frames of a stream.
-ghost use Rattle.std.specs.Prelude.{◌≡◌, ◌+◌, ◌<◌, ◌≤◌, Ok, MatchResult};
-ghost use Rattle.bus.specs.Sums.{largest_below};
-ghost use Rattle.engine.specs.Group.{Members, Gathers, rival, sent};
+ghost use Rattle.std.specs.Prelude.{◌≡◌, ◌+◌, ◌<◌, Ok, MatchResult};
+ghost use Rattle.engine.specs.Group.{Gathers, rival};
 
 use bus::refusal::Refusal;
 use bus::traffic::Traffic;

@@ -1,5 +1,5 @@
 // What the other nodes send in windows that were worked out before, since it depends on nothing but the window.
-ghost use Rattle.std.specs.Prelude.{◌≡◌, ℕ, ◌+◌, ◌<◌, ◌≤◌, Ok};
+ghost use Rattle.std.specs.Prelude.{◌≡◌, ℕ, ◌+◌, ◌≤◌, Ok};
 ghost use Rattle.bus.specs.Bound.{others};
 ghost use Rattle.bus.specs.Meaning.{Meaning};
 ghost use Rattle.engine.specs.Memo.{Keeps};

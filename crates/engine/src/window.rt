@@ -3,7 +3,6 @@ ghost use Rattle.std.specs.Prelude.{◌≡◌, ◌+◌, ◌<◌, ◌≤◌, Ok};
 ghost use Rattle.bus.specs.Bound.{need, horizon};
 ghost use Rattle.bus.specs.Search.{Starts};
 ghost use Rattle.engine.specs.Memo.{Keeps};
-ghost use Rattle.engine.specs.Profile.{Profiles};
 ghost use Rattle.engine.specs.Window.{Settled, Asks};
 
 use crate::demand::demand;

@@ -1,7 +1,7 @@
 // The report on a settled plan, as text.
 #![tactic(auto)]
 
-ghost use Rattle.std.specs.Prelude.{◌≡◌, ◌++◌, IfOk, string_bytes};
+ghost use Rattle.std.specs.Prelude.{◌≡◌, IfOk, string_bytes};
 ghost use Rattle.report.specs.Report.{row_text, Reports};
 ghost use Rattle.settled.specs.Holding.{holding, VerdictsHold};
 

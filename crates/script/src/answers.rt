@@ -1,5 +1,5 @@
 // The answers to a list of calls, one a line.
-ghost use Rattle.std.specs.Prelude.{◌≡◌, ◌++◌, IfOk, string_bytes};
+ghost use Rattle.std.specs.Prelude.{◌≡◌, IfOk, string_bytes};
 ghost use Rattle.std.specs.List.{flat_map};
 ghost use Rattle.script.specs.Answers.{answer_text, ending_text, Played};
 

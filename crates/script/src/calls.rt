@@ -1,5 +1,5 @@
 // Reads calls, one a line.
-ghost use Rattle.std.specs.Prelude.{◌≡◌, IfOk};
+ghost use Rattle.std.specs.Prelude.{IfOk};
 ghost use Rattle.script.specs.Calls.{MessageRead, AmountRead, CallRead, ScriptRead};
 
 use crate::words::{Word, read_word};

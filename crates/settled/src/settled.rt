@@ -1,5 +1,5 @@
 // A plan whose messages are worked out. It can be read and reopened, and not altered.
-ghost use Rattle.std.specs.Prelude.{ℕ, ◌<◌, length, get_or};
+ghost use Rattle.std.specs.Prelude.{ℕ, ◌<◌, length};
 ghost use Rattle.plan.specs.Held.{held, record_at};
 ghost use Rattle.plan.specs.Streams.{traffic_of};
 ghost use Rattle.settled.specs.Figures.{figure_at, Known};

@@ -1,5 +1,5 @@
 -- A measured sender: its spans and its limits. Assumes nothing.
-use Rattle.std.specs.Prelude.{◌≡◌, ℕ, zero, suc, ◌+◌, Bool, true, not, ◌&&◌, ltb, List, [], ◌∷◌, is_ok, nat_le, nat_lt, slice_index}
+use Rattle.std.specs.Prelude.{◌≡◌, ℕ, zero, suc, ◌+◌, Bool, true, not, ◌&&◌, List, [], ◌∷◌, is_ok, nat_le, nat_lt, slice_index}
 use Rattle.bus.specs.declared.refusal.Refusal.TheVariants.{Identifier, Node, Bytes, Jitter, Spans}
 use Rattle.bus.specs.Refused.{Rules, answer}
 use Rattle.sheet.specs.declared.sender.Sender.{Sender}
@@ -24,7 +24,7 @@ every_below (suc n) test = test n && every_below n test
 
 -- s(2) to s(8) are each above the one before, from s(1) = 0, and at most 8,388,608
 abbrev pub spans_fit : List ℕ → Bool
-spans_fit spans = every_below 7 (λ k. ltb (span spans (k + 1)) (span spans (k + 2))) && nat_le (span spans 8) 8388608
+spans_fit spans = every_below 7 (λ k. nat_lt (span spans (k + 1)) (span spans (k + 2))) && nat_le (span spans 8) 8388608
 
 -- what can refuse a sender by itself
 abbrev pub limits : Sender → Rules

@@ -1,5 +1,5 @@
 // Reads a table line by line, and enters each record before the next line is read.
-ghost use Rattle.std.specs.Prelude.{◌≡◌, ℕ, ◌<◌, ◌≤◌, length};
+ghost use Rattle.std.specs.Prelude.{◌≡◌, ◌<◌};
 ghost use Rattle.plan.specs.Held.{held};
 ghost use Rattle.table.specs.Table.{LineEntered, TableRead, layer_of};
 

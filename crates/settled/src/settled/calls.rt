@@ -1,8 +1,7 @@
 // Settling, reading and reopening a plan.
-ghost use Rattle.std.specs.Prelude.{◌≡◌, ℕ, ◌<◌, true, length, None, IfOk};
+ghost use Rattle.std.specs.Prelude.{◌≡◌, None, IfOk};
 ghost use Rattle.plan.specs.Book.{Step, Settle, Reopen, open_book, settled_book};
 ghost use Rattle.plan.specs.Held.{held};
-ghost use Rattle.plan.specs.Record.{within};
 ghost use Rattle.plan.specs.Streams.{traffic_of};
 ghost use Rattle.settled.specs.Figures.{Among};
 ghost use Rattle.settled.specs.Holding.{holding, FiguresHold, VerdictHolds, VerdictAsked, RowAsked};
