@@ -35,12 +35,10 @@ pub record Refused (table out : List ℕ) : Type 0 where
 abbrev pub Answers : List ℕ → List ℕ → Type 0
 Answers table out = Accepted table out ⊎ Refused table out
 
--- every line was taken, the text is the report on those messages, and each bound that it tells is kept
+-- the text is the report on a table, and each bound that it tells is kept
 pub record Kept (table out : List ℕ) : Type 0 where
-  pub records : List Record
-  pub entered : TableEntered [] table records
-  pub reports : Reports records out
-  pub delivered : VerdictsHold records
+  pub accepted : Accepted table out
+  pub delivered : VerdictsHold accepted.records
 
 abbrev pub AnswersHold : List ℕ → List ℕ → Type 0
 AnswersHold table out = Kept table out ⊎ Refused table out
