@@ -8,31 +8,25 @@ use crate::profile::read_profile;
 use bus::refusal::Refusal;
 use bus::traffic::Traffic;
 
-#[derive(Clone, Copy, PartialEq, Eq, Debug)]
-pub enum Outcome {
-    Bounded(u32),
-    Unsettled,
-}
-
 // The longest time from the arrival of an instance of the stream until its frame is off the wire, over all phases of its
-// node. Phase 0 or a turning phase has it.
-pub fn bound<T: Traffic>(traffic: &T, stream: u32) -> Result<Outcome, Refusal>
+// node; None where the stream is unsettled, so that no such time is found. Phase 0 or a turning phase has it.
+pub fn bound<T: Traffic>(traffic: &T, stream: u32) -> Result<Option<u32>, Refusal>
     ensures asked { BoundAsked (T.meaning traffic.now) stream result }
     ensures delivered { BoundDelivered (T.meaning traffic.now) stream result }
 {
     let profile = read_profile(traffic, stream)?;
     let mut memo = new_memo();
-    let Outcome::Bounded(first) = worst(traffic, &profile, &mut memo, 0)? else {
-        return Ok(Outcome::Unsettled);
+    let Some(first) = worst(traffic, &profile, &mut memo, 0)? else {
+        return Ok(None);
     };
     let mut most = first;
     let mut from = 1;
     while let Some(turn) = turn_from(traffic, profile.node, from)? {
-        let Outcome::Bounded(here) = worst(traffic, &profile, &mut memo, turn)? else {
-            return Ok(Outcome::Unsettled);
+        let Some(here) = worst(traffic, &profile, &mut memo, turn)? else {
+            return Ok(None);
         };
         most = most.max(here);
         from = turn + 1;
     }
-    Ok(Outcome::Bounded(most))
+    Ok(Some(most))
 }

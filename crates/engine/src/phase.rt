@@ -5,7 +5,6 @@ ghost use Rattle.engine.specs.Bounded.{Worst};
 ghost use Rattle.engine.specs.Memo.{Keeps};
 ghost use Rattle.engine.specs.Profile.{Profiles};
 
-use crate::bound::Outcome;
 use crate::memo::Memo;
 use crate::profile::Profile;
 use crate::window::settle;
@@ -21,13 +20,14 @@ fn response(window: u32, longest: u32, place: i64) -> u32
     (i64::from(window + longest) - place) as u32
 }
 
-// The largest response of the instances that are listed at the phase. Each starts from the window of the one before.
+// The largest response of the instances that are listed at the phase, or None where a reached one never settles. Each
+// starts from the window of the one before.
 pub(crate) fn worst<T: Traffic>(
     traffic: &T,
     profile: &Profile,
     memo: &mut Memo,
     phase: u32,
-) -> Result<Outcome, Refusal>
+) -> Result<Option<u32>, Refusal>
     requires profile { Profiles (T.meaning traffic.now) profile.now }
     requires phase { phase < (T.meaning traffic.now).cycle ((T.meaning traffic.now).node profile.now.stream) }
     requires kept { Keeps (T.meaning traffic.now) profile.now.stream memo.old }
@@ -40,11 +40,11 @@ pub(crate) fn worst<T: Traffic>(
     while let Some(window) = settle(traffic, profile, memo, phase, instance, start)? {
         let place = traffic.place(profile.stream, phase, instance)?;
         if place > i64::from(window) {
-            return Ok(Outcome::Bounded(most));
+            return Ok(Some(most));
         }
         most = most.max(response(window, profile.longest, place));
         start = window;
         instance += 1;
     }
-    Ok(Outcome::Unsettled)
+    Ok(None)
 }
