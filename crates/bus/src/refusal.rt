@@ -1,68 +1,65 @@
 // Why a call is refused.
-ghost use Rattle.std.specs.Prelude.{◌≡◌};
+ghost use Rattle.std.specs.Prelude.{◌≡◌, Some};
+ghost use Rattle.std.specs.Fmt.{decimal};
 ghost use Rattle.bus.specs.Refused.{number};
 
+use std::error::Error;
+use std::fmt;
+
+// Each with the number by which users know it.
 #[derive(Clone, Copy, PartialEq, Eq, Debug)]
 pub enum Refusal {
     // an identifier above 2,047
-    Identifier,
+    Identifier = 1,
     // a node above 15
-    Node,
+    Node = 2,
     // more than 8 data bytes
-    Bytes,
+    Bytes = 3,
     // a period or gap of 0 or above 1,048,576
-    Period,
+    Period = 4,
     // an offset that is not below its period
-    Offset,
+    Offset = 5,
     // a jitter above 1,048,576
-    Jitter,
+    Jitter = 6,
     // a due time of 0 or above 4,194,304
-    Due,
+    Due = 7,
     // not a lawful line
-    Line,
+    Line = 8,
     // a text that is too long
-    Text,
+    Text = 9,
     // a question outside its range
-    Question,
+    Question = 10,
     // a delay above 1,048,576
-    Delay,
+    Delay = 11,
     // spans that do not rise, or rise above 8,388,608
-    Spans,
+    Spans = 12,
     // the identifier is already held
-    Held,
+    Held = 31,
     // the identifier is not held
-    NotHeld,
+    NotHeld = 32,
     // 64 are held already
-    Full,
+    Full = 33,
     // a cycle above 4,194,304 would arise
-    Cycle,
+    Cycle = 34,
     // a reach above 16,777,216 would arise
-    Reach,
+    Reach = 35,
 }
 
 impl Refusal {
-    // The number by which users know the refusal.
     pub fn number(self) -> u32
         ensures { result ≡ number self }
     {
-        match self {
-            Refusal::Identifier => 1,
-            Refusal::Node => 2,
-            Refusal::Bytes => 3,
-            Refusal::Period => 4,
-            Refusal::Offset => 5,
-            Refusal::Jitter => 6,
-            Refusal::Due => 7,
-            Refusal::Line => 8,
-            Refusal::Text => 9,
-            Refusal::Question => 10,
-            Refusal::Delay => 11,
-            Refusal::Spans => 12,
-            Refusal::Held => 31,
-            Refusal::NotHeld => 32,
-            Refusal::Full => 33,
-            Refusal::Cycle => 34,
-            Refusal::Reach => 35,
-        }
+        self as u32
     }
 }
+
+// The number, in decimal.
+impl fmt::Display for Refusal {
+    ghost output = { λ refusal. Some (decimal (number refusal)) };
+
+    fn fmt<W: fmt::Write>(&self, f: &mut fmt::Formatter<W>) -> fmt::Result {
+        write!(f, "{}", self.number())
+    }
+}
+
+impl Error for Refusal {}
