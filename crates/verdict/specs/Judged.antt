@@ -8,7 +8,6 @@ use Rattle.bus.specs.Run.{Delivered}
 use Rattle.verdict.specs.declared.Judgement.{Judgement}
 use Rattle.verdict.specs.declared.Judgement.TheVariants.{Met, Late}
 use Rattle.verdict.specs.declared.Verdict.{Verdict}
-use Rattle.verdict.specs.declared.Verdict.TheVariants.{Bound, Unsettled as NoBound}
 
 -- met up to the due time, late above it
 abbrev pub judgement_of : ℕ → ℕ → Judgement
@@ -37,21 +36,21 @@ module _ (m : Meaning) (identifier : ℕ) where
     pub sends : Sends m.streams stream
     pub unsettled : Unsettled m stream
 
-  -- unsettled if a stream of the message is, else the larger bound of its streams
-  abbrev pub VerdictIs : ℕ → Verdict → Type 0
-  VerdictIs due (Bound b judgement) = Largest m.streams b × (judgement ≡ judgement_of b due)
-  VerdictIs due NoBound = SomeUnsettled
+  -- none if a stream of the message is unsettled, else the largest bound of its streams
+  abbrev pub VerdictIs : ℕ → Option Verdict → Type 0
+  VerdictIs due (Some v) = Largest m.streams v.bound × (v.judgement ≡ judgement_of v.bound due)
+  VerdictIs due None = SomeUnsettled
 
   -- or that there is no such message
-  abbrev pub Judged : ℕ → Result Verdict Refusal → Type 0
+  abbrev pub Judged : ℕ → Result (Option Verdict) Refusal → Type 0
   Judged due (Ok v) = VerdictIs due v
   Judged due (Err e) = (e ≡ NotHeld) × ((i : ℕ) → Sends m.streams i → ⊥)
 
   -- a bound is kept by each stream of the message, in every run that keeps the traffic's places
-  abbrev pub Delivers : Verdict → Type 0
-  Delivers (Bound b judgement) = (i : ℕ) → Sends m.streams i → Delivered m i b
-  Delivers NoBound = Unit {0}
+  abbrev pub Delivers : Option Verdict → Type 0
+  Delivers (Some v) = (i : ℕ) → Sends m.streams i → Delivered m i v.bound
+  Delivers None = Unit {0}
 
-  abbrev pub JudgedDelivers : Result Verdict Refusal → Type 0
+  abbrev pub JudgedDelivers : Result (Option Verdict) Refusal → Type 0
   JudgedDelivers (Ok v) = Delivers v
   JudgedDelivers (Err e) = Unit {0}

@@ -2,11 +2,13 @@
 #![tactic(auto)]
 
 ghost use Rattle.verdict.specs.Judged.{Judged, JudgedDelivers, judgement_of, NoLess};
-ghost use Rattle.std.specs.Prelude.{◌≡◌};
+ghost use Rattle.verdict.specs.Text.{judgement_text};
+ghost use Rattle.std.specs.Prelude.{◌≡◌, Some};
 
 use bus::refusal::Refusal;
 use bus::traffic::Traffic;
-use engine::bound::{Outcome, bound};
+use engine::bound::bound;
+use std::fmt;
 
 #[derive(Clone, Copy, PartialEq, Eq, Debug)]
 pub enum Judgement {
@@ -16,10 +18,22 @@ pub enum Judgement {
     Late,
 }
 
+impl fmt::Display for Judgement {
+    ghost output = { λ judgement. Some (judgement_text judgement) };
+
+    fn fmt<W: fmt::Write>(&self, f: &mut fmt::Formatter<W>) -> fmt::Result {
+        f.write_str(match self {
+            Judgement::Met => "met",
+            Judgement::Late => "late",
+        })
+    }
+}
+
+// The bound on a message, and whether it is met. A message that is unsettled has none.
 #[derive(Clone, Copy, PartialEq, Eq, Debug)]
-pub enum Verdict {
-    Bound { bound: u32, judgement: Judgement },
-    Unsettled,
+pub struct Verdict {
+    pub bound: u32,
+    pub judgement: Judgement,
 }
 
 fn compare(bound: u32, due: u32) -> Judgement
@@ -36,31 +50,31 @@ fn compare(bound: u32, due: u32) -> Judgement
 fn larger(most: Option<u32>, bound: u32) -> u32
     ensures { NoLess most bound result }
 {
-    match most {
-        Some(before) => before.max(bound),
-        None => bound,
-    }
+    most.map_or(bound, |before| before.max(bound))
 }
 
-// The verdict on the message with the identifier, whose streams are those that have it.
-pub fn judge<T: Traffic>(traffic: &T, identifier: u32, due: u32) -> Result<Verdict, Refusal>
+// The verdict on the message with the identifier, whose streams are those that have it, or none where one of them is
+// unsettled.
+pub fn judge<T: Traffic>(
+    traffic: &T,
+    identifier: u32,
+    due: u32,
+) -> Result<Option<Verdict>, Refusal>
     ensures judged { Judged (T.meaning traffic.now) identifier due result }
     ensures delivered { JudgedDelivers (T.meaning traffic.now) identifier result }
 {
     let mut most = None;
     for stream in 0..traffic.streams() {
         if traffic.identifier(stream)? == identifier {
-            match bound(traffic, stream)? {
-                Outcome::Bounded(bound) => most = Some(larger(most, bound)),
-                Outcome::Unsettled => return Ok(Verdict::Unsettled),
-            }
+            let Some(bound) = bound(traffic, stream)? else {
+                return Ok(None);
+            };
+            most = Some(larger(most, bound));
         }
     }
-    match most {
-        Some(bound) => Ok(Verdict::Bound {
-            bound,
-            judgement: compare(bound, due),
-        }),
-        None => Err(Refusal::NotHeld),
-    }
+    let bound = most.ok_or(Refusal::NotHeld)?;
+    Ok(Some(Verdict {
+        bound,
+        judgement: compare(bound, due),
+    }))
 }
