@@ -1,3 +1,2 @@
 pub mod Sending
-pub mod Filling
 pub mod Delivering

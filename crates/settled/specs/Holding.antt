@@ -1,5 +1,5 @@
 -- What a settled plan holds and answers. Assumes nothing.
-use Rattle.std.specs.Prelude.{◌≡◌, ℕ, ◌<◌, ◌≤◌, List, length, Ok, Err, Result, ◌≢◌}
+use Rattle.std.specs.Prelude.{◌≡◌, ℕ, ◌<◌, ◌≤◌, List, length, Some, None, Ok, Err, Option, Result, ◌≢◌}
 use Rattle.bus.specs.declared.refusal.Refusal.{Refusal}
 use Rattle.bus.specs.declared.refusal.Refusal.TheVariants.{NotHeld, Question}
 use Rattle.plan.specs.declared.record.Record.{Record}
@@ -7,7 +7,6 @@ use Rattle.plan.specs.Held.{held, record_at}
 use Rattle.plan.specs.Streams.{traffic_of}
 use Rattle.runs.specs.Delivery.{MessageDelivered}
 use Rattle.verdict.specs.declared.Verdict.{Verdict}
-use Rattle.verdict.specs.declared.Verdict.TheVariants.{Bound, Unsettled}
 use Rattle.settled.specs.declared.settled.SettledPlan.{SettledPlan}
 use Rattle.settled.specs.declared.settled.calls.Row.{Row}
 use Rattle.settled.specs.Figures.{figure_at, Among, Known}
@@ -17,27 +16,27 @@ abbrev pub holding : SettledPlan → List Record
 holding s = held s.plan
 
 -- a bound is kept: in every run that keeps the declarations, every instance of the message is off the wire within it
-abbrev pub VerdictHolds : List Record → ℕ → Verdict → Type 0
-VerdictHolds records identifier (Bound b judgement) = MessageDelivered records identifier b
-VerdictHolds records identifier Unsettled = Unit {0}
+abbrev pub VerdictHolds : List Record → ℕ → Option Verdict → Type 0
+VerdictHolds records identifier (Some v) = MessageDelivered records identifier v.bound
+VerdictHolds records identifier None = Unit {0}
 
 -- v is the verdict on the record at a position
-pub record FigureOf (records : List Record) (position : ℕ) (v : Verdict) : Type 0 where
+pub record FigureOf (records : List Record) (position : ℕ) (v : Option Verdict) : Type 0 where
   pub known : Known (traffic_of records) (record_at records position) v
   pub delivered : VerdictHolds records (record_at records position).identifier v
 
 -- and such is the figure of every record held
 abbrev pub FiguresHold : SettledPlan → Type 0
-FiguresHold s = (k : ℕ) → k < length (holding s) → FigureOf (holding s) k (figure_at s.verdicts k)
+FiguresHold s = (k : ℕ) → k < length (holding s) → FigureOf (holding s) k (figure_at s.rows.items k)
 
 -- v is the verdict on the message with the identifier
-pub record VerdictOf (records : List Record) (identifier : ℕ) (v : Verdict) : Type 0 where
+pub record VerdictOf (records : List Record) (identifier : ℕ) (v : Option Verdict) : Type 0 where
   pub message : Record
   pub among : Among records message
   pub named : message.identifier ≡ identifier
   pub known : Known (traffic_of records) message v
 
-abbrev pub VerdictAsked : List Record → ℕ → Result Verdict Refusal → Type 0
+abbrev pub VerdictAsked : List Record → ℕ → Result (Option Verdict) Refusal → Type 0
 VerdictAsked records identifier (Ok v) = VerdictOf records identifier v
 VerdictAsked records identifier (Err e) = (e ≡ NotHeld) × ((message : Record) → Among records message → message.identifier ≢ identifier)
 
@@ -53,4 +52,4 @@ RowAsked records position (Err e) = (e ≡ Question) × (length records ≤ posi
 
 -- every verdict on one of the records that is a bound is kept
 abbrev pub VerdictsHold : List Record → Type 0
-VerdictsHold records = (identifier : ℕ) (v : Verdict) → VerdictOf records identifier v → VerdictHolds records identifier v
+VerdictsHold records = (identifier : ℕ) (v : Option Verdict) → VerdictOf records identifier v → VerdictHolds records identifier v

@@ -1,33 +1,54 @@
 // Settling, reading and reopening a plan.
-ghost use Rattle.std.specs.Prelude.{◌≡◌, None, IfOk};
+ghost use Rattle.std.specs.Prelude.{◌≡◌, Some, None, IfOk};
 ghost use Rattle.plan.specs.Book.{Step, Settle, Reopen, open_book, settled_book};
 ghost use Rattle.plan.specs.Held.{held};
 ghost use Rattle.plan.specs.Streams.{traffic_of};
 ghost use Rattle.settled.specs.Figures.{Among};
 ghost use Rattle.settled.specs.Holding.{holding, FiguresHold, VerdictHolds, VerdictAsked, RowAsked};
+ghost use Rattle.settled.specs.Text.{figure_text};
 ghost use Rattle.verdict.specs.Judged.{VerdictIs};
 
-use super::{MOST_RECORDS, SettledPlan};
+use super::SettledPlan;
+use arrayvec::ArrayVec;
 use bus::refusal::Refusal;
 use plan::open::OpenPlan;
 use plan::record::Record;
+use std::fmt;
 use verdict::{Verdict, judge};
 
-// A message's identifier and the verdict on it.
-#[derive(Clone, Copy)]
+// A message's identifier and the verdict on it, none where it is unsettled.
+#[derive(Clone, Copy, PartialEq, Eq, Debug, Default)]
 pub struct Row {
     pub identifier: u64,
-    pub verdict: Verdict,
+    pub verdict: Option<Verdict>,
 }
 
-// The verdict on a message that the plan holds.
-fn work_out(plan: &OpenPlan, message: Record) -> Verdict
+// Without a line feed.
+impl fmt::Display for Row {
+    ghost output = { λ row. Some (figure_text row.identifier row.verdict) };
+
+    fn fmt<W: fmt::Write>(&self, f: &mut fmt::Formatter<W>) -> fmt::Result {
+        let identifier = self.identifier;
+        match self.verdict {
+            Some(Verdict { bound, judgement }) => write!(
+                f,
+                "(bound {identifier} {bound} {judgement})"
+            ),
+            None => write!(f, "(bound {identifier} unsettled)"),
+        }
+    }
+}
+
+// The row of a message that the plan holds.
+fn work_out(plan: &OpenPlan, message: Record) -> Row
     requires held { Among (held plan.now) message }
-    ensures { VerdictIs (traffic_of (held plan.now)) message.identifier message.due result }
+    ensures named { result.identifier ≡ message.identifier }
+    ensures verdict { VerdictIs (traffic_of (held plan.now)) message.identifier message.due result.verdict }
 {
-    match judge(plan, message.identifier as u32, message.due as u32) {
-        Ok(verdict) => verdict,
-        Err(_) => unreachable(),
+    let judged = judge(plan, message.identifier as u32, message.due as u32);
+    Row {
+        identifier: message.identifier,
+        verdict: judged.unwrap(),
     }
 }
 
@@ -37,13 +58,13 @@ pub fn settle(plan: OpenPlan) -> SettledPlan
     ensures figures { FiguresHold result }
     ensures step { Step (open_book (held plan)) Settle None (settled_book (holding result)) }
 {
-    let mut verdicts = [Verdict::Unsettled; MOST_RECORDS];
+    let mut rows = ArrayVec::new();
     for k in 0..plan.len() {
         if let Some(message) = plan.message(k) {
-            verdicts[k] = work_out(&plan, message);
+            rows.push(work_out(&plan, message));
         }
     }
-    SettledPlan { plan, verdicts }
+    SettledPlan { plan, rows }
 }
 
 impl SettledPlan {
@@ -52,23 +73,21 @@ impl SettledPlan {
         ensures holds { held result ≡ holding self }
         ensures step { Step (settled_book (holding self)) Reopen None (open_book (held result)) }
     {
-        let SettledPlan { plan, verdicts: _ } = self;
+        let SettledPlan { plan, rows: _ } = self;
         plan
     }
 
-    // The verdict on the message with the identifier.
-    pub fn verdict(&self, identifier: u64) -> Result<Verdict, Refusal>
+    // The verdict on the message with the identifier, none where it is unsettled.
+    pub fn verdict(&self, identifier: u64) -> Result<Option<Verdict>, Refusal>
         ensures asked { VerdictAsked (holding self.now) identifier result }
         ensures delivered { IfOk result (λ v. VerdictHolds (holding self.now) identifier v) }
     {
-        for k in 0..self.plan.len() {
-            if let Some(message) = self.plan.message(k) {
-                if message.identifier == identifier {
-                    return Ok(self.verdicts[k]);
-                }
-            }
-        }
-        Err(Refusal::NotHeld)
+        let row = self
+            .rows
+            .iter()
+            .find(|row| row.identifier == identifier)
+            .ok_or(Refusal::NotHeld)?;
+        Ok(row.verdict)
     }
 
     // The message at a position, counted from 0, with its verdict.
@@ -76,12 +95,6 @@ impl SettledPlan {
         ensures asked { RowAsked (holding self.now) position result }
         ensures delivered { IfOk result (λ row. VerdictHolds (holding self.now) row.identifier row.verdict) }
     {
-        let Some(message) = self.plan.message(position) else {
-            return Err(Refusal::Question);
-        };
-        Ok(Row {
-            identifier: message.identifier,
-            verdict: self.verdicts[position],
-        })
+        self.rows.get(position).copied().ok_or(Refusal::Question)
     }
 }

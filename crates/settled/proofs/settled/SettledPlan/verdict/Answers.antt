@@ -1,9 +1,10 @@
-use Rattle.std.proofs.Common.{rules}
-use Rattle.settled.proofs.Delivering.{figure_holds}
+use Rattle.std.proofs.Common.{Ok, rules}
+use Rattle.settled.specs.Holding.{holding, VerdictAsked}
+use Rattle.settled.proofs.Delivering.{verdicts_hold}
 use Rattle.settled.proofs.settled.SettledPlan.verdict.Goals as goal
 
-pub returns-then-message-identifier : goal.returns-then-message-identifier
-returns-then-message-identifier c =
-    let is = c.in-Some.ensures in
-    let kept = figure_holds c.args.self.now c.loop-k.k is.0 in
-    search rules
+pub returns-clause-delivered : goal.returns-clause-delivered
+returns-clause-delivered c =
+    let verdict = c.in_ok-row.row.now.verdict in
+    let asked : VerdictAsked (holding c.args.self.now) c.args.identifier (Ok verdict) = search rules in
+    verdicts_hold c.args.self.now c.args.identifier verdict asked

@@ -1,7 +1,10 @@
-use Rattle.std.proofs.Common.{length, sym, subst, arith}
+use Rattle.std.proofs.Common.{ℕ, length, IsOk, Ok, Err, Option, Result, sym, refl, subst, arith}
+use Rattle.bus.specs.declared.refusal.Refusal.{Refusal}
+use Rattle.bus.specs.Meaning.{Meaning}
 use Rattle.plan.specs.declared.record.Record.{Record}
 use Rattle.plan.specs.Streams.{streams_of, traffic_of}
-use Rattle.verdict.specs.Judged.{Sends}
+use Rattle.verdict.specs.declared.Verdict.{Verdict}
+use Rattle.verdict.specs.Judged.{Sends, Judged}
 use Rattle.plan.specs.Held.{held}
 use Rattle.plan.specs.Limited.{Fits, fits}
 use Rattle.plan.specs.Kept.{within_at}
@@ -21,9 +24,15 @@ overflow_cast-message c = omega (arith, (keeps (goal.at.overflow_cast-message c)
 pub overflow_cast-message-2 : goal.overflow_cast-message-2
 overflow_cast-message-2 c = omega (arith, (keeps (goal.at.overflow_cast-message-2 c).Start).due)
 
-pub unreachable-requires : goal.unreachable-requires
-unreachable-requires c =
+-- a message with a stream is not refused
+judged_ok : (m : Meaning) (identifier due : ℕ) (r : Result (Option Verdict) Refusal) → Judged m identifier due r → (i : ℕ) → Sends m identifier m.streams i → IsOk r
+judged_ok m identifier due (Ok v) judged i sends = refl
+judged_ok m identifier due (Err e) judged i sends = absurd (judged.1 i sends)
+
+pub unwrap-requires : goal.unwrap-requires
+unwrap-requires c =
     let records = held c.args.plan.now in
     let at = c.requires.held in
     let found = sends_at records at.place at.inside in
-    c.in-Err.ensures.judged.1 found.0 (subst (λ (message : Record). Sends (traffic_of records) message.identifier (length (streams_of records)) found.0) (sym at.is) found.1)
+    judged_ok (traffic_of records) c.args.message.identifier c.args.message.due c.judge-judged.result c.judge-judged.ensures.judged found.0
+    (subst (λ (message : Record). Sends (traffic_of records) message.identifier (length (streams_of records)) found.0) (sym at.is) found.1)
