@@ -1,5 +1,5 @@
 -- A report grows identifier by identifier. Assumes nothing.
-use Rattle.std.proofs.Common.{◌≡◌, ℕ, ◌+◌, ◌<◌, List, [], ◌∷◌, ◌++◌, length, sym, refl, ap, ◌∙◌, subst, inl, inr, arith}
+use Rattle.std.proofs.Common.{◌≡◌, ℕ, ◌+◌, ◌<◌, List, [], ◌∷◌, ◌++◌, length, Option, sym, refl, ap, ◌∙◌, subst, inl, inr, arith}
 use Rattle.std.proofs.lemmas.List.{length_push, get_or_push, get_or_append_left, flat_map_more}
 use Rattle.std.proofs.lemmas.Bool.{cases_lt}
 use Rattle.plan.specs.declared.record.Record.{Record}
@@ -9,16 +9,6 @@ use Rattle.settled.specs.Holding.{VerdictOf}
 use Rattle.report.specs.Report.{Line, no_line, line_at, line_text, row_text, Listed, ReportsBelow}
 
 module _ (records : List Record) where
-  pub reports_none : ReportsBelow 0 records []
-  reports_none = record {
-    lines = [];
-    is = refl;
-    rising = λ j k less inside. absurd (omega arith);
-    below = λ k inside. absurd (omega arith);
-    told = λ k inside. absurd (omega arith);
-    whole = λ message among below. absurd (omega arith);
-  }
-
   -- no message has the identifier
   pub reports_past : (n : ℕ) (text : List ℕ) → ((message : Record) → Among records message → message.identifier ≡ n → ⊥) → ReportsBelow n records text → ReportsBelow (n + 1) records text
   reports_past n text none so = record {
@@ -34,7 +24,7 @@ module _ (records : List Record) where
   }
 
   -- one more line
-  module _ (n : ℕ) (v : Verdict) (text : List ℕ) (told : VerdictOf records n v) (so : ReportsBelow n records text) where
+  module _ (n : ℕ) (v : Option Verdict) (text : List ℕ) (told : VerdictOf records n v) (so : ReportsBelow n records text) where
     abbrev last : Line
     last = record { identifier = n; verdict = v }
 

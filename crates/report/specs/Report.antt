@@ -1,30 +1,23 @@
 -- The text of a report: a line for each message, in rising identifier. Assumes nothing.
-use Rattle.std.specs.Prelude.{◌≡◌, ℕ, ◌<◌, List, ◌++◌, length, codes, decimal, slice_index_or}
+use Rattle.std.specs.Prelude.{◌≡◌, ℕ, ◌<◌, List, ◌++◌, length, None, codes, Option, slice_index_or}
 use Rattle.std.specs.List.{flat_map}
 use Rattle.plan.specs.declared.record.Record.{Record}
-use Rattle.verdict.specs.declared.Judgement.{Judgement}
-use Rattle.verdict.specs.declared.Judgement.TheVariants.{Met, Late}
 use Rattle.verdict.specs.declared.Verdict.{Verdict}
-use Rattle.verdict.specs.declared.Verdict.TheVariants.{Bound, Unsettled}
+use Rattle.settled.specs.Text.{figure_text}
 use Rattle.settled.specs.Figures.{Among}
 use Rattle.settled.specs.Holding.{VerdictOf}
 
-abbrev pub judgement_text : Judgement → List ℕ
-judgement_text Met = codes " met)\n"
-judgement_text Late = codes " late)\n"
-
 -- the line on a message; a line feed closes it
-abbrev pub row_text : ℕ → Verdict → List ℕ
-row_text identifier (Bound b judgement) = codes "(bound " ++ (decimal identifier ++ (codes " " ++ (decimal b ++ judgement_text judgement)))
-row_text identifier Unsettled = codes "(bound " ++ (decimal identifier ++ codes " unsettled)\n")
+abbrev pub row_text : ℕ → Option Verdict → List ℕ
+row_text identifier verdict = figure_text identifier verdict ++ codes "\n"
 
 -- a line: an identifier and the verdict on its message
 pub record Line : Type 0 where
   pub identifier : ℕ
-  pub verdict : Verdict
+  pub verdict : Option Verdict
 
 abbrev pub no_line : Line
-no_line = record { identifier = 0; verdict = Unsettled }
+no_line = record { identifier = 0; verdict = None }
 
 abbrev pub line_at : List Line → ℕ → Line
 line_at lines k = slice_index_or lines k no_line

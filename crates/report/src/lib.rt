@@ -6,24 +6,27 @@ ghost use Rattle.report.specs.Report.{row_text, Reports};
 ghost use Rattle.settled.specs.Holding.{holding, VerdictsHold};
 
 use settled::settled::SettledPlan;
+use settled::settled::calls::Row;
 use std::alloc::{AllocError, Global};
 use std::fmt::Write;
-use verdict::{Judgement, Verdict};
+use verdict::Verdict;
 
 // No identifier is as high.
 const IDENTIFIERS: u64 = 2048;
 
 // The line on one message.
-pub fn row_text(heap: Global, identifier: u64, verdict: Verdict) -> Result<String, AllocError>
+pub fn row_text(
+    heap: Global,
+    identifier: u64,
+    verdict: Option<Verdict>,
+) -> Result<String, AllocError>
     ensures { IfOk result (λ line. string_bytes line ≡ row_text identifier verdict) }
 {
-    match verdict {
-        Verdict::Bound { bound, judgement } => match judgement {
-            Judgement::Met => format!(in heap; "(bound {identifier} {bound} met)\n"),
-            Judgement::Late => format!(in heap; "(bound {identifier} {bound} late)\n"),
-        },
-        Verdict::Unsettled => format!(in heap; "(bound {identifier} unsettled)\n"),
-    }
+    let row = Row {
+        identifier,
+        verdict,
+    };
+    format!(in heap; "{row}\n")
 }
 
 // A line for each message that the plan holds, in rising identifier.
@@ -33,9 +36,12 @@ pub fn report(heap: Global, plan: &SettledPlan) -> Result<String, AllocError>
 {
     let mut text = String::new(heap);
     for identifier in 0..IDENTIFIERS {
-        match plan.verdict(identifier) {
-            Ok(verdict) => text.push_str(&row_text(heap, identifier, verdict)?)?,
-            Err(_) => {}
+        if let Ok(verdict) = plan.verdict(identifier) {
+            let row = Row {
+                identifier,
+                verdict,
+            };
+            writeln!(text, "{row}")?;
         }
     }
     Ok(text)

@@ -1,5 +1,5 @@
 -- A verdict that is a bound is kept. Assumes nothing.
-use Rattle.std.proofs.Common.{ℕ, ◌<◌, List, length, Some, None, Ok, Err, Option, Result, IfOk, sym, subst}
+use Rattle.std.proofs.Common.{ℕ, List, Some, None, Ok, Err, Option, Result, IfOk, sym, subst}
 use mathlib.Core.Logic.{∥∥₁_elim}
 use denote.Struct.Props.{props}
 use Rattle.bus.specs.declared.refusal.Refusal.{Refusal}

@@ -1,31 +1,27 @@
-use Rattle.std.proofs.Common.{◌≡◌, ℕ, ◌+◌, ◌≤◌, List, ◌++◌, string_bytes, sym, ap, ◌∙◌, subst, arith}
+use Rattle.std.proofs.Common.{◌≡◌, ℕ, ◌+◌, ◌≤◌, ◌++◌, string_bytes, sym, ap, ◌∙◌, subst, arith}
 use Rattle.plan.specs.declared.record.Record.{Record}
 use Rattle.plan.specs.Held.{held, record_at}
 use Rattle.plan.specs.Limited.{fits}
 use Rattle.plan.specs.Plans.{sound}
 use Rattle.plan.specs.Kept.{within_at}
-use Rattle.settled.specs.Holding.{holding, VerdictOf}
+use Rattle.settled.specs.Holding.{holding}
 use Rattle.settled.proofs.Delivering.{verdicts_hold}
 use Rattle.report.specs.Report.{row_text, ReportsBelow}
-use Rattle.report.proofs.Lining.{reports_none, reports_past, reports_more}
+use Rattle.report.proofs.Lining.{reports_past, reports_more}
 use Rattle.report.proofs.report.Goals as goal
-use Rattle.report.proofs.report.Goals.{in-Ok+in_ok-row_text-in-Ok+in_ok-push_str-in-Ok, in-Err}
-
-pub loop-identifier-init : goal.loop-identifier-init
-loop-identifier-init c = subst (λ (bytes : List ℕ). ReportsBelow 0 (holding c.args.plan.now) bytes) (sym c.new-text.ensures.bytes) (reports_none (holding c.args.plan.now))
+use Rattle.report.proofs.report.Goals.{in-Ok+in_ok-writeln, in_default}
 
 pub loop-identifier-preserved : goal.loop-identifier-preserved
 loop-identifier-preserved c =
     let records = holding c.args.plan.now in
     let n = c.loop-identifier.identifier in
+    let before = string_bytes c.loop-identifier.text in
     elim c.match-verdict.branch [
-      | in-Ok+in_ok-row_text-in-Ok+in_ok-push_str-in-Ok w ↦
-          let told : VerdictOf records n w.in-Ok.verdict = w.in-Ok.ensures.asked in
-          let line : string_bytes w.in_ok-row_text-in-Ok.field-0 ≡ row_text n w.in-Ok.verdict = w.in_ok-row_text-in-Ok.ensures in
-          let grown : string_bytes c.match-verdict.text ≡ string_bytes c.loop-identifier.text ++ row_text n w.in-Ok.verdict = ap string_bytes w.text-is ∙ w.in_ok-push_str-in-Ok.ensures.bytes ∙ ap (λ bytes. string_bytes c.loop-identifier.text ++ bytes) (w.deref.ensures ∙ line) in
-          subst (ReportsBelow (n + 1) records) (sym grown) (reports_more records n w.in-Ok.verdict (string_bytes c.loop-identifier.text) told c.loop-identifier.invariant)
-      | in-Err w ↦
-          subst (ReportsBelow (n + 1) records) (sym (ap string_bytes w.text-is)) (reports_past records n (string_bytes c.loop-identifier.text) w.in-Err.ensures.asked.1 c.loop-identifier.invariant)
+      | in-Ok+in_ok-writeln w ↦
+          let grown : string_bytes c.match-verdict.text ≡ before ++ row_text n w.in-Ok.verdict = ap string_bytes w.text-is ∙ w.in_ok-writeln.ensures.bytes in
+          subst (ReportsBelow (n + 1) records) (sym grown) (reports_more records n w.in-Ok.verdict before w.in-Ok.ensures.asked c.loop-identifier.invariant)
+      | in_default w ↦
+          subst (ReportsBelow (n + 1) records) (sym (ap string_bytes w.text-is)) (reports_past records n before w.in_default.ensures.asked.1 c.loop-identifier.invariant)
     ]
 
 pub returns-clause-reports : goal.returns-clause-reports

@@ -34,5 +34,5 @@ unwrap-requires c =
     let records = held c.args.plan.now in
     let at = c.requires.held in
     let found = sends_at records at.place at.inside in
-    judged_ok (traffic_of records) c.args.message.identifier c.args.message.due c.judge-judged.result c.judge-judged.ensures.judged found.0
+    judged_ok (traffic_of records) c.args.message.identifier _ c.judge-judged.result c.judge-judged.ensures.judged found.0
     (subst (λ (message : Record). Sends (traffic_of records) message.identifier (length (streams_of records)) found.0) (sym at.is) found.1)
