@@ -1,23 +1,15 @@
 -- The answer to a table, as text. Assumes nothing.
-use Rattle.std.specs.Prelude.{◌≡◌, ℕ, ◌⊎◌, List, [], ◌++◌, Err, codes, decimal}
-use Rattle.bus.specs.Refused.{number}
+use Rattle.std.specs.Prelude.{◌≡◌, ℕ, ◌⊎◌, List, [], ◌++◌, Err, codes}
 use Rattle.plan.specs.declared.record.Record.{Record}
 use Rattle.settled.specs.Holding.{VerdictsHold}
 use Rattle.report.specs.Report.{Reports}
 use Rattle.table.specs.declared.table.Fault.{Fault}
-use Rattle.table.specs.declared.table.Layer.{Layer}
-use Rattle.table.specs.declared.table.Layer.TheVariants.{Text, Plan}
-use Rattle.table.specs.Table.{layer_of, TableEntered, TableRead}
+use Rattle.table.specs.Table.{TableEntered, TableRead}
+use Rattle.table.specs.Text.{fault_told}
 
-abbrev pub layer_text : Layer → List ℕ
-layer_text Text = codes " text "
-layer_text Plan = codes " plan "
-
--- (fault LINE PLACE LAYER NUMBER) and a line feed
+-- a line that tells a fault; a line feed closes it
 abbrev pub fault_text : Fault → List ℕ
-fault_text fault =
-    codes "(fault " ++ (decimal fault.line ++ (codes " " ++ (decimal fault.place
-    ++ (layer_text (layer_of fault.refusal) ++ (decimal (number fault.refusal) ++ codes ")\n")))))
+fault_text fault = fault_told fault ++ codes "\n"
 
 -- every line was taken, and the text is the report on those messages
 pub record Accepted (table out : List ℕ) : Type 0 where
