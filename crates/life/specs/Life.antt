@@ -40,7 +40,7 @@ abbrev pub counted : Result ℕ Refusal → Answer
 counted (Ok n) = Held n
 counted (Err e) = Refused e
 
-abbrev pub verdict_told : ℕ → Result Verdict Refusal → Answer
+abbrev pub verdict_told : ℕ → Result (Option Verdict) Refusal → Answer
 verdict_told identifier (Ok v) = Told (record { identifier = identifier; verdict = v })
 verdict_told identifier (Err e) = Refused e
 

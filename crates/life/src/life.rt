@@ -1,11 +1,15 @@
 // What is asked of a plan in the course of its life, what it answers, and what it is then.
+ghost use Rattle.std.specs.Prelude.{Some};
+ghost use Rattle.life.specs.Text.{answer_told};
+
 use bus::refusal::Refusal;
 use plan::open::OpenPlan;
 use plan::record::Record;
 use settled::settled::SettledPlan;
 use settled::settled::calls::Row;
+use std::fmt;
 
-#[derive(Clone, Copy)]
+#[derive(Clone, Copy, PartialEq, Eq, Debug)]
 pub enum Call {
     Enter(Record),
     Alter(Record),
@@ -16,7 +20,7 @@ pub enum Call {
     Row(usize),
 }
 
-#[derive(Clone, Copy)]
+#[derive(Clone, Copy, PartialEq, Eq, Debug)]
 pub enum Answer {
     // how many messages are held then
     Held(usize),
@@ -24,6 +28,21 @@ pub enum Answer {
     Settled,
     Open,
     Told(Row),
+}
+
+// Without a line feed.
+impl fmt::Display for Answer {
+    ghost output = { λ answer. Some (answer_told answer) };
+
+    fn fmt<W: fmt::Write>(&self, f: &mut fmt::Formatter<W>) -> fmt::Result {
+        match self {
+            Answer::Held(count) => write!(f, "held {count}"),
+            Answer::Refused(refusal) => write!(f, "refused {refusal}"),
+            Answer::Settled => f.write_str("settled"),
+            Answer::Open => f.write_str("open"),
+            Answer::Told(row) => write!(f, "{row}"),
+        }
+    }
 }
 
 #[derive(Drop)]

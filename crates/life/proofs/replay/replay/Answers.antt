@@ -6,12 +6,12 @@ use Rattle.life.specs.Life.{book_of, Lives}
 use Rattle.life.proofs.Living.{lives_on, stops_at, figured}
 use Rattle.life.proofs.replay.replay.Goals as goal
 
-pub returns-in-None : goal.returns-in-None
-returns-in-None c = record { goes = stops_at c.args.calls.now c.loop-place.place _ c.loop-place-test.true _ _ c.loop-place.invariant _ _ c.work-left.ensures c.in-None.is; figured = figured c.work-left.result.0 }
+pub returns-in_default : goal.returns-in_default
+returns-in_default c = record { goes = stops_at c.args.calls.now c.loop-place.place _ c.loop-place-test.true _ _ c.loop-place.invariant _ _ c.work-left.ensures c.in_default.is; figured = figured c.work-left.result.0 }
 
 pub loop-place-preserved : goal.loop-place-preserved
 loop-place-preserved c =
-    subst (λ (answers : List Answer). Lives (take (c.loop-place.place + 1) c.args.calls.now) answers (book_of c.work-left.result.0)) (sym c.in_ok-push-in-Some.ensures.items)
+    subst (λ (answers : List Answer). Lives (take (c.loop-place.place + 1) c.args.calls.now) answers (book_of c.work-left.result.0)) (sym c.in_ok-push.ensures.items)
     (lives_on c.args.calls.now c.loop-place.place _ c.loop-place-test.true _ _ c.loop-place.invariant _ _ c.work-left.ensures c.in-Some.answer c.in-Some.is)
 
 pub returns : goal.returns
