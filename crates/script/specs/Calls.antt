@@ -1,5 +1,5 @@
 -- The line of a call, and what it is to read calls. Assumes nothing.
-use Rattle.std.specs.Prelude.{◌≡◌, ℕ, ◌<◌, Bool, true, false, List, [], ◌∷◌, ◌++◌, length, Some, None, vec_items, decimal, Option, ◌≢◌}
+use Rattle.std.specs.Prelude.{◌≡◌, ℕ, ◌<◌, ◌≤◌, List, [], ◌∷◌, ◌++◌, length, drop, Some, None, Ok, Err, vec_items, decimal, Option, Result, ◌≢◌}
 use Rattle.std.specs.Borrow.{Bor}
 use Rattle.std.specs.List.{flat_map, AllByRecursion}
 use Rattle.plan.specs.declared.record.Record.{Record}
@@ -60,6 +60,18 @@ abbrev pub Found : {A : Type 0} → (A → Type 0) → (A → List ℕ) → List
 Found Allowed text s (Some found) = Begins Allowed text s found.0 found.1.now
 Found Allowed text s None = BeginsNone Allowed text s
 
+-- what is read ends within the text
+abbrev pub Within : {V E : Type 0} → List ℕ → Result (V × ℕ) E → Type 0
+Within text (Ok read) = read.1 ≤ length text
+Within text (Err e) = Unit {0}
+
+-- what was read, and what comes after the place where it ends
+abbrev pub Follows : {V E : Type 0} → List ℕ → Result (V × ℕ) E → Option (V × Bor (List ℕ)) → Type 0
+Follows text (Ok read) (Some found) = (found.0 ≡ read.0) × (found.1.now ≡ drop read.1 text)
+Follows text (Ok read) None = ⊥
+Follows text (Err e) (Some found) = ⊥
+Follows text (Err e) None = Unit {0}
+
 abbrev pub MessageRead : List ℕ → Option (Record × Bor (List ℕ)) → Type 0
 MessageRead s r = Found Lawful line_of s r
 
@@ -73,17 +85,17 @@ CallRead s r = Found LawfulCall call_line s r
 abbrev pub NoCall : List ℕ → Type 0
 NoCall s = BeginsNone LawfulCall call_line s
 
--- nothing is left, or something that begins with the line of no call
-abbrev pub Ends : Bool → List ℕ → Type 0
-Ends true rest = rest ≡ []
-Ends false rest = (0 < length rest) × NoCall rest
+-- nothing is left, or something that begins with the line of no call, which comes after those of the calls
+abbrev pub Ends : ℕ → Option ℕ → List ℕ → Type 0
+Ends calls None rest = rest ≡ []
+Ends calls (Some place) rest = (place ≡ calls) × (0 < length rest) × NoCall rest
 
 -- the text consists of the lines of these calls and of what is left
-pub record CallsRead (text : List ℕ) (calls : List Call) (whole : Bool) : Type 0 where
+pub record CallsRead (text : List ℕ) (calls : List Call) (unread : Option ℕ) : Type 0 where
   pub lawful : AllByRecursion LawfulCall calls
   pub rest : List ℕ
   pub is : text ≡ flat_map call_line calls ++ rest
-  pub ends : Ends whole rest
+  pub ends : Ends (length calls) unread rest
 
 abbrev pub ScriptRead : List ℕ → Script → Type 0
-ScriptRead text script = CallsRead text (vec_items script.calls) script.whole
+ScriptRead text script = CallsRead text (vec_items script.calls) script.unread

@@ -1,39 +1,41 @@
 // Reads calls, one a line.
-ghost use Rattle.std.specs.Prelude.{IfOk};
-ghost use Rattle.script.specs.Calls.{MessageRead, AmountRead, CallRead, ScriptRead};
+ghost use Rattle.std.specs.Prelude.{IfOk, length};
+ghost use Rattle.script.specs.Calls.{Follows, MessageRead, AmountRead, CallRead, ScriptRead, Within};
 
 use crate::words::{Word, read_word};
 use life::life::Call;
-use line::line::read_line;
+use line::line::{LineFault, read_line};
 use line::number::read_number;
 use plan::record::Record;
 use std::alloc::{AllocError, Global};
 
-// The calls up to the end, or up to the first line that is none; whether that is the end.
+// The calls up to the end, or up to the first line that is none, whose place, counted from 0, is told.
 #[derive(Drop)]
 pub struct Script {
     pub calls: Vec<Call>,
-    pub whole: bool,
+    pub unread: Option<usize>,
+}
+
+// What was read at the beginning of the text, and what follows it.
+fn follow<V>(text: &[u8], read: Result<(V, usize), LineFault>) -> Option<(V, &[u8])>
+    requires { Within text.now read }
+    ensures { Follows text.now read result }
+{
+    read.ok().map(|(value, next)| (value, &text[next..]))
 }
 
 // The message on the line that begins the text, and what comes after that line.
 fn read_message(text: &[u8]) -> Option<(Record, &[u8])>
     ensures { MessageRead text.now result }
 {
-    match read_line(text) {
-        Ok((message, next)) => Some((message, &text[next..])),
-        Err(_) => None,
-    }
+    follow(text, read_line(text))
 }
 
 // The number on the line that begins the text, and what comes after that line.
 fn read_amount(text: &[u8]) -> Option<(u64, &[u8])>
     ensures { AmountRead text.now result }
 {
-    match read_number(text) {
-        Ok((amount, next)) => Some((amount, &text[next..])),
-        Err(_) => None,
-    }
+    follow(text, read_number(text))
 }
 
 // The call on the line that begins the text, and what comes after that line.
@@ -42,28 +44,22 @@ fn read_call(text: &[u8]) -> Option<(Call, &[u8])>
 {
     let (word, argument) = read_word(text)?;
     match word {
-        Word::Enter => match read_message(argument) {
-            Some((message, rest)) => Some((Call::Enter(message), rest)),
-            None => None,
-        },
-        Word::Alter => match read_message(argument) {
-            Some((message, rest)) => Some((Call::Alter(message), rest)),
-            None => None,
-        },
-        Word::Strike => match read_amount(argument) {
-            Some((identifier, rest)) => Some((Call::Strike(identifier), rest)),
-            None => None,
-        },
+        Word::Enter => read_message(argument).map(|(message, rest)| (Call::Enter(message), rest)),
+        Word::Alter => read_message(argument).map(|(message, rest)| (Call::Alter(message), rest)),
+        Word::Strike => read_amount(argument).map(|(identifier, rest)| (
+            Call::Strike(identifier),
+            rest,
+        )),
         Word::Settle => Some((Call::Settle, argument)),
         Word::Reopen => Some((Call::Reopen, argument)),
-        Word::Verdict => match read_amount(argument) {
-            Some((identifier, rest)) => Some((Call::Verdict(identifier), rest)),
-            None => None,
-        },
-        Word::Row => match read_amount(argument) {
-            Some((position, rest)) => Some((Call::Row(position as usize), rest)),
-            None => None,
-        },
+        Word::Verdict => read_amount(argument).map(|(identifier, rest)| (
+            Call::Verdict(identifier),
+            rest,
+        )),
+        Word::Row => read_amount(argument).map(|(position, rest)| (
+            Call::Row(position as usize),
+            rest,
+        )),
     }
 }
 
@@ -74,18 +70,15 @@ pub fn read_calls(heap: Global, text: &[u8]) -> Result<Script, AllocError>
     let mut calls = Vec::new(heap);
     let mut rest = text;
     while !rest.is_empty() {
-        match read_call(rest) {
-            Some((call, after)) => {
-                calls.push(call)?;
-                rest = after;
-            }
-            None => {
-                return Ok(Script {
-                    calls,
-                    whole: false,
-                });
-            }
-        }
+        let Some((call, after)) = read_call(rest) else {
+            let unread = Some(calls.len());
+            return Ok(Script { calls, unread });
+        };
+        calls.push(call)?;
+        rest = after;
     }
-    Ok(Script { calls, whole: true })
+    Ok(Script {
+        calls,
+        unread: None,
+    })
 }

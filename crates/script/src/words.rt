@@ -1,7 +1,8 @@
 // The words that calls begin with.
-ghost use Rattle.script.specs.Words.{Stripped, WordRead};
+ghost use Rattle.std.specs.Prelude.{◌≡◌};
+ghost use Rattle.script.specs.Words.{word_text, Stripped, WordRead};
 
-#[derive(Clone, Copy)]
+#[derive(Clone, Copy, PartialEq, Eq, Debug)]
 pub(crate) enum Word {
     Enter,
     Alter,
@@ -12,36 +13,47 @@ pub(crate) enum Word {
     Row,
 }
 
+const WORDS: [Word; 7] = [
+    Word::Enter,
+    Word::Alter,
+    Word::Strike,
+    Word::Settle,
+    Word::Reopen,
+    Word::Verdict,
+    Word::Row,
+];
+
+impl Word {
+    // What it puts at the beginning of its line. A word without an argument takes the line feed with it.
+    fn text(self) -> &'static [u8]
+        ensures { result.now ≡ word_text self }
+    {
+        match self {
+            Word::Enter => b"enter ",
+            Word::Alter => b"alter ",
+            Word::Strike => b"strike ",
+            Word::Settle => b"settle\n",
+            Word::Reopen => b"reopen\n",
+            Word::Verdict => b"verdict ",
+            Word::Row => b"row ",
+        }
+    }
+}
+
 fn strip<'a>(text: &'a [u8], front: &[u8]) -> Option<&'a [u8]>
     ensures { Stripped front.now text.now result }
 {
     text.strip_prefix(front)
 }
 
-// The word that begins the text, and what comes after it. A word without an argument takes the line feed with it.
+// The word that begins the text, and what comes after it.
 pub(crate) fn read_word(text: &[u8]) -> Option<(Word, &[u8])>
     ensures { WordRead text.now result }
 {
-    if let Some(rest) = strip(text, b"enter ") {
-        return Some((Word::Enter, rest));
-    }
-    if let Some(rest) = strip(text, b"alter ") {
-        return Some((Word::Alter, rest));
-    }
-    if let Some(rest) = strip(text, b"strike ") {
-        return Some((Word::Strike, rest));
-    }
-    if let Some(rest) = strip(text, b"settle\n") {
-        return Some((Word::Settle, rest));
-    }
-    if let Some(rest) = strip(text, b"reopen\n") {
-        return Some((Word::Reopen, rest));
-    }
-    if let Some(rest) = strip(text, b"verdict ") {
-        return Some((Word::Verdict, rest));
-    }
-    if let Some(rest) = strip(text, b"row ") {
-        return Some((Word::Row, rest));
+    for word in WORDS {
+        if let Some(rest) = strip(text, word.text()) {
+            return Some((word, rest));
+        }
     }
     None
 }

@@ -1,15 +1,18 @@
-use Rattle.line.specs.Line.{line_of, Lawful}
-use Rattle.script.proofs.Reading.{line_within, begins_with}
+use Rattle.std.proofs.Common.{ℕ, List, Some, None, Ok, Err, Option, Result, Bor, sym, ◌∙◌, subst, ap₂, ◌++◌}
+use Rattle.plan.specs.declared.record.Record.{Record}
+use Rattle.line.specs.declared.line.LineFault.{LineFault}
+use Rattle.line.specs.Line.{line_of, Lawful, Read}
+use Rattle.script.specs.Calls.{Follows, MessageRead}
 use Rattle.script.proofs.calls.read_message.Goals as goal
 
-pub slice_bounds-result-count : goal.slice_bounds-result-count
-slice_bounds-result-count c = let read = c.in-Ok.ensures in line_within Lawful line_of c.args.text.now c.in-Ok.message c.in-Ok.next read.is read.next
+message_read : (text : List ℕ) (r : Result (Record × ℕ) LineFault) (o : Option (Record × Bor (List ℕ))) → Read text r → Follows text r o → MessageRead text o
+message_read text (Ok read) (Some found) reads follows = record {
+  lawful = subst Lawful (sym follows.0) reads.lawful;
+  is = reads.is ∙ ap₂ (λ (r : Record) (rest : List ℕ). line_of r ++ rest) (sym follows.0) (sym follows.1);
+}
+message_read text (Ok read) None reads follows = absurd follows
+message_read text (Err e) (Some found) reads follows = absurd follows
+message_read text (Err e) None faults follows = λ message rest lawful is. faults.none message (record { lawful = lawful; rest = rest; is = is })
 
-pub slice_bounds-result-start : goal.slice_bounds-result-start
-slice_bounds-result-start c = let read = c.in-Ok.ensures in line_within Lawful line_of c.args.text.now c.in-Ok.message c.in-Ok.next read.is read.next
-
-pub returns-in-Ok : goal.returns-in-Ok
-returns-in-Ok c = let read = c.in-Ok.ensures in begins_with Lawful line_of c.args.text.now c.in-Ok.message c.in-Ok.next read.is read.next read.lawful
-
-pub returns-in-Err : goal.returns-in-Err
-returns-in-Err c message rest lawful is = c.in-Err.ensures.none message (record { lawful = lawful; rest = rest; is = is })
+pub returns : goal.returns
+returns c = message_read c.args.text.now c.read_line.result c.follow.result c.read_line.ensures c.follow.ensures
