@@ -158,19 +158,22 @@ apart_words : (F : Form) (v w s : List ℕ) (at n : ℕ) → Asked v → Asked w
 apart_words F v [] s at n a b differ h = absurd (omega (arith, b.some))
 apart_words F v (c ∷ w) s at n a b differ h = apart_given (λ e. differ (sym (begins v s at n a.some h) ∙ e))
 
--- bytes that a reader skips, and what comes of them
+-- a reader skips the bytes w
 abbrev pub Skipped : List ℕ → Reader → Reader → Type 0
 Skipped w a b = Skips w a b (Ok tt)
 
 pub past_given : {F : Form} {w : List ℕ} {a b : Reader} → Skipped w a b → Past (given w F) a b F
 past_given h = record { same = h.0; passes = pass_given h.1 }
 
+-- one step of a reader after another
 pub pass_on : {F G H : Form} {a b c : Reader} → Past F a b G → Past G b c H → Past F a c H
 pass_on x y = record { same = y.same ∙ x.same; passes = pass x.passes (rw x.same at y.passes) }
 
+-- a fault after a step of a reader
 pub stop_on : {F G : Form} {a b : Reader} {p : ℕ} → Past F a b G → Fault G b.text.now b.at p → Fault F a.text.now a.at p
 stop_on x f = stop x.passes (rw x.same at f)
 
+-- bytes read in two parts
 pub then_skips : {v : List ℕ} {a b : Reader} (w : List ℕ) (c : Reader) (r : Result (Unit {0}) LineFault) → Skipped v a b → Skips w b c r → Skips (v ++ w) a c r
 then_skips w c (Ok u) h k = (k.0 ∙ h.0, stands_both h.1 (rw h.0 at k.1))
 then_skips w c (Err fault) h k = missed_second h.1 (rw h.0 at k)

@@ -1,6 +1,7 @@
 -- The laws of the beginning that two texts share. Assumes nothing.
 use Rattle.std.proofs.Common.{◌≡◌, ℕ, suc, ◌+◌, ◌<◌, ◌≤◌, cond, ◌==◌, ◌⊎◌, List, [], ◌∷◌, ◌++◌, length, get_or, take, drop, sym, refl, ap, ◌∙◌, ap₂, inl, inr, ⊎_elim, append-nil, arith, take-append-drop}
 use Rattle.std.specs.List.{AllByRecursion, prefix_len, zip}
+use Rattle.std.proofs.lemmas.List.Sums.{common_prefix_len-le}
 use Rattle.std.proofs.lemmas.Bool.{cases_eq, cases_lt, eq-eqb, ne_eqb}
 use Rattle.std.proofs.lemmas.List.{length-take-le, take_all, drop_all}
 use Rattle.line.specs.Forms.{shared}
@@ -21,10 +22,6 @@ pub shared_none : (c : ℕ) (t s : List ℕ) → (get_or s 0 0 ≡ c → ⊥) �
 shared_none c t [] h = refl
 shared_none c t (d ∷ s) h = shared_differ c d t s (λ e. h (sym e))
 
-pub shared_nil : (t : List ℕ) → shared t [] ≡ 0
-shared_nil [] = refl
-shared_nil (c ∷ t) = refl
-
 -- what is shared, as the pairs of equal bytes that come first
 pub shared_pairs : (t s : List ℕ) → prefix_len (λ p. p.0 == p.1) (zip t s) ≡ shared t s
 shared_pairs [] s = refl
@@ -36,11 +33,7 @@ shared_append [] t u = omega arith
 shared_append (c ∷ w) t u = omega (arith, shared_same c c (w ++ t) (w ++ u) refl, shared_append w t u)
 
 pub shared_at_most : (t s : List ℕ) → (shared t s ≤ length t) × (shared t s ≤ length s)
-shared_at_most [] s = (omega arith, omega arith)
-shared_at_most (c ∷ t) [] = (omega arith, omega arith)
-shared_at_most (c ∷ t) (d ∷ s) =
-    let rest = shared_at_most t s in
-    elim (shared_step c d t s) [ inl h ↦ (omega arith, omega arith) | inr h ↦ (omega arith, omega arith) ]
+shared_at_most t s = common_prefix_len-le (λ c d. c == d) t s
 
 -- what is shared is equal
 pub take_shared : (t s : List ℕ) → take (shared t s) t ≡ take (shared t s) s

@@ -18,7 +18,7 @@ pub record Missed (w s : List ℕ) (at p : ℕ) : Type 0 where
   pub short : shared w (drop at s) < length w
   pub place : p ≡ reach s at w
 
--- the bytes w are read
+-- the bytes w are read, and the reader stays in its text
 abbrev pub Skips : List ℕ → Reader → Reader → Result (Unit {0}) LineFault → Type 0
 Skips w old new (Ok _) = (new.text ≡ old.text) × Stands w old.text.now old.at new.at
 Skips w old new (Err fault) = Missed w old.text.now old.at fault.at

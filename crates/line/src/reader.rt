@@ -30,7 +30,7 @@ fn value_of(digits: &[u8]) -> u64
 }
 
 // A text, and the place in it that is read next.
-#[derive(Clone, Copy, PartialEq, Eq, Debug)]
+#[derive(Clone, Copy, Debug)]
 pub(crate) struct Reader<'a> {
     pub(crate) text: &'a [u8],
     pub(crate) at: usize,
