@@ -1,36 +1,18 @@
 -- What a token says of the byte that stands at its place. Assumes nothing.
-use Rattle.std.proofs.Common.{◌≡◌, ℕ, ◌+◌, ◌<◌, cond, eqb, List, [], ◌∷◌, length, get_or, drop, sym, refl, ap, ◌∙◌, subst, add-zero, arith}
+use Rattle.std.proofs.Common.{◌≡◌, ℕ, ◌<◌, List, [], ◌∷◌, length, get_or, drop, sym, refl, ap, ◌∙◌, subst, add-zero, arith}
 use Rattle.std.specs.List.{AllByRecursion}
-use Rattle.std.proofs.lemmas.List.{get_or-drop, drop_more}
+use Rattle.std.proofs.lemmas.List.{get_or-drop}
 use Rattle.line.specs.declared.tokens.Mark.{Mark}
 use Rattle.line.specs.declared.tokens.Mark.TheVariants.{Open, Close, Space, Feed}
 use Rattle.line.specs.declared.tokens.Token.{Token}
 use Rattle.line.specs.declared.tokens.Token.TheVariants.{Mark as MarkToken, Word, Number}
-use Rattle.line.specs.Tokens.{Letter, Digit, byte_of, Stands, TokenStands, BeginsNone}
-use Rattle.line.specs.Expect.{Missed}
-use Rattle.line.proofs.Sharing.{shared_none}
+use Rattle.line.specs.Tokens.{Letter, Digit, byte_of, Stands, TokenStands}
 
 pub mark_below : (mark : Mark) → (0 < byte_of mark) × (byte_of mark < 48)
 mark_below Open = (omega arith, omega arith)
 mark_below Close = (omega arith, omega arith)
 mark_below Space = (omega arith, omega arith)
 mark_below Feed = (omega arith, omega arith)
-
-mark_at : ℕ → Mark
-mark_at c = cond (eqb c 40) Open (cond (eqb c 41) Close (cond (eqb c 32) Space Feed))
-
-mark_back : (mark : Mark) → mark_at (byte_of mark) ≡ mark
-unfolding mark_at
-mark_back Open = refl
-mark_back Close = refl
-mark_back Space = refl
-mark_back Feed = refl
-
-mark_same : {mark other : Mark} → byte_of mark ≡ byte_of other → mark ≡ other
-mark_same {mark} {other} e = sym (mark_back mark) ∙ ap mark_at e ∙ mark_back other
-
-pub zero_begins_none : {c : ℕ} → c ≡ 0 → BeginsNone c
-zero_begins_none e = record { mark = λ mark is. omega (arith, (mark_below mark).0); letter = λ l. omega (arith, l.0); digit = λ d. omega (arith, d.0) }
 
 pub first_byte : (s : List ℕ) (at : ℕ) → get_or (drop at s) 0 0 ≡ get_or s at 0
 first_byte s at = get_or-drop at s 0 0 ∙ ap (λ k. get_or s k 0) (add-zero at)
@@ -40,12 +22,7 @@ first_of : (P : ℕ → Type 0) {s : List ℕ} {at n : ℕ} (w : List ℕ) → 0
 first_of P [] some all h = absurd (omega arith)
 first_of P {s} {at} (c ∷ w) some all h = subst P (sym (ap (λ u. get_or u 0 0) h.is) ∙ first_byte s at) all.0
 
--- only a mark begins with the byte of a mark, only a word with a letter, and only a number with a digit
-pub not_mark : (s : List ℕ) (at : ℕ) (token : Token) (mark : Mark) → TokenStands s at token → (token ≡ MarkToken mark → ⊥) → get_or s at 0 ≡ byte_of mark → ⊥
-not_mark s at (MarkToken other) mark h n e = n (ap MarkToken (mark_same (sym h ∙ e)))
-not_mark s at (Word w) mark h n e = omega (arith, (mark_below mark).1, (first_of Letter w.now h.some h.letters h.stands).0)
-not_mark s at (Number w) mark h n e = omega (arith, (mark_below mark).1, (first_of Digit w.now h.numeral.some h.numeral.all h.stands).0)
-
+-- only a word begins with a letter, and only a number with a digit
 pub not_letter : (s : List ℕ) (at : ℕ) (token : Token) → TokenStands s at token → ((w : _) → token ≡ Word w → ⊥) → Letter (get_or s at 0) → ⊥
 not_letter s at (MarkToken mark) h n l = omega (arith, (mark_below mark).1, l.0)
 not_letter s at (Word w) h n l = n w refl
@@ -55,11 +32,3 @@ pub not_digit : (s : List ℕ) (at : ℕ) (token : Token) → TokenStands s at t
 not_digit s at (MarkToken mark) h n d = omega (arith, (mark_below mark).1, d.0)
 not_digit s at (Word w) h n d = omega (arith, d.1, (first_of Letter w.now h.some h.letters h.stands).0)
 not_digit s at (Number w) h n d = n w refl
-
-pub byte_stands : {s : List ℕ} {at c : ℕ} → at < length s → get_or s at 0 ≡ c → Stands (c ∷ []) s at (at + 1)
-byte_stands {s} {at} {c} within is = record { is = drop_more s at 0 within ∙ ap (λ b. b ∷ drop (at + 1) s) is; ends = refl }
-
-pub byte_missed : {s : List ℕ} {at c : ℕ} → (get_or s at 0 ≡ c → ⊥) → Missed (c ∷ []) s at at
-byte_missed {s} {at} {c} differs =
-    let none = shared_none c [] (drop at s) (λ e. differs (sym (first_byte s at) ∙ e)) in
-    record { short = omega arith; place = omega arith }

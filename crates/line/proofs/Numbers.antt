@@ -92,10 +92,9 @@ digit_value : (c : ℕ) → Digit c → digitValue c ≡ c - 48
 digit_value c d = rw (le-ltb c 48 d.0, lt-ltb c 58 (omega (arith, d.1)))
 
 -- one more digit is read
-pub value_step : (ds : List ℕ) (i n : ℕ) → Numeral ds → i < length ds → n ≡ digits_value 10 (take i ds) → (48 ≤ get_or ds i 0) × (n * 10 + (get_or ds i 0 - 48) < 10 ^ 10) × (n * 10 + (get_or ds i 0 - 48) ≡ digits_value 10 (take (i + 1) ds))
-value_step ds i n h l e =
-    let d = All-get_or Digit ds i 0 l h.all in
+pub value_step : (ds : List ℕ) (i n digit : ℕ) → Numeral ds → i < length ds → n ≡ digits_value 10 (take i ds) → digit ≡ get_or ds i 0 - 48 → (n * 10 + digit < 10 ^ 10) × (n * 10 + digit ≡ digits_value 10 (take (i + 1) ds))
+value_step ds i n digit h l e is =
     let m = digits_value_more 10 ds i l in
-    let k = digit_value (get_or ds i 0) d in
-    let is : n * 10 + (get_or ds i 0 - 48) ≡ digits_value 10 (take (i + 1) ds) = omega arith in
-    (d.0, omega (arith, digits_value_short own (take (i + 1) ds) 10 (All-take Digit (i + 1) ds h.all) (simp length-take (omega (arith, h.short)))), is)
+    let k = digit_value (get_or ds i 0) (All-get_or Digit ds i 0 l h.all) in
+    let value : n * 10 + digit ≡ digits_value 10 (take (i + 1) ds) = omega arith in
+    (omega (arith, digits_value_short own (take (i + 1) ds) 10 (All-take Digit (i + 1) ds h.all) (simp length-take (omega (arith, h.short)))), value)

@@ -1,12 +1,13 @@
 -- How the reach of a text passes from the parts of a form to the whole. Assumes nothing.
-use Rattle.std.proofs.Common.{◌≡◌, ℕ, ◌+◌, ◌<◌, ◌≤◌, max, Bool, true, false, ◌⊎◌, List, [], ◌∷◌, ◌++◌, length, get_or, drop, IsErrAnd, Ok, Err, decimal, Result, sym, refl, ap, ◌∙◌, ap₂, inl, inr, append_assoc, arith, lit<, length-append}
+use Rattle.std.proofs.Common.{◌≡◌, ℕ, ◌+◌, ◌<◌, ◌≤◌, max, ◌⊎◌, List, [], ◌∷◌, ◌++◌, length, get_or, drop, IsErrAnd, Ok, Err, decimal, Result, sym, refl, ap, ◌∙◌, ap₂, inl, inr, append_assoc, arith, lit<, length-append}
 use Rattle.std.proofs.lemmas.Bool.{cases_lt}
 use Rattle.std.proofs.lemmas.Result.{err_from_is_err_and}
 use Rattle.plan.specs.declared.record.Record.{Record}
 use Rattle.line.specs.declared.line.LineFault.{LineFault}
+use Rattle.line.specs.declared.reader.Reader.{Reader}
 use Rattle.line.specs.Tokens.{byte_of, Stands}
 use Rattle.line.specs.Forms.{shared, Form, end, given, number, choice, Text, Leads, Leaves, Passes, Fault}
-use Rattle.line.specs.Expect.{Asked, Missed, Skips, Gives, either}
+use Rattle.line.specs.Expect.{Asked, Missed, Skips, Past, Gives, either}
 use Rattle.line.proofs.Sharing.{shared_append, shared_short, shared_none}
 
 -- every form has a text
@@ -95,10 +96,6 @@ missed_second {v} {w} {s} {at} {n} {p} h k =
     let same = ap (shared (v ++ w)) h.is ∙ shared_append v w (drop n s) in
     record { short = omega (arith, k.short, length-append v w); place = omega (arith, h.ends, k.place) }
 
-pub then_skips : {v s : List ℕ} {at n : ℕ} (w : List ℕ) (r : Result ℕ LineFault) → Stands v s at n → Skips w s n r → Skips (v ++ w) s at r
-then_skips w (Ok m) h k = stands_both h k
-then_skips w (Err fault) h k = missed_second h k
-
 -- no text of the form begins with what stands there
 pub record Apart (F : Form) (s : List ℕ) (at : ℕ) : Type 0 where
   pub leaves : (r : Record) (t : List ℕ) → Text F r t → Leaves s at (at + 1) t
@@ -161,21 +158,47 @@ apart_words : (F : Form) (v w s : List ℕ) (at n : ℕ) → Asked v → Asked w
 apart_words F v [] s at n a b differ h = absurd (omega (arith, b.some))
 apart_words F v (c ∷ w) s at n a b differ h = apart_given (λ e. differ (sym (begins v s at n a.some h) ∙ e))
 
-module _ {v w s : List ℕ} {at inside n : ℕ} (K : Bool → Form) (a : Asked v) (b : Asked w) (differ : get_or v 0 0 ≡ get_or w 0 0 → ⊥) (bracket : Stands (40 ∷ []) s at inside) where
-  pub pass_first : Stands (v ++ 32 ∷ []) s inside n → Passes (either v w K) s at n (K true)
-  pass_first h = pass (pass_given bracket) (narrow_passes (omega (arith, h.ends, length-append v (32 ∷ []))) (narrow_first (apart_words (K false) v w s inside n a b differ h)) (pass_given h))
+-- a reader skips the bytes w
+abbrev pub Skipped : List ℕ → Reader → Reader → Type 0
+Skipped w a b = Skips w a b (Ok tt)
 
-  pub pass_second : Stands (w ++ 32 ∷ []) s inside n → Passes (either v w K) s at n (K false)
-  pass_second h = pass (pass_given bracket) (narrow_passes (omega (arith, h.ends, length-append w (32 ∷ []))) (narrow_second (apart_words (K true) w v s inside n b a (λ e. differ (sym e)) h)) (pass_given h))
+pub past_given : {F : Form} {w : List ℕ} {a b : Reader} → Skipped w a b → Past (given w F) a b F
+past_given h = record { same = h.0; passes = pass_given h.1 }
+
+-- one step of a reader after another
+pub pass_on : {F G H : Form} {a b c : Reader} → Past F a b G → Past G b c H → Past F a c H
+pass_on x y = record { same = y.same ∙ x.same; passes = pass x.passes (rw x.same at y.passes) }
+
+-- a fault after a step of a reader
+pub stop_on : {F G : Form} {a b : Reader} {p : ℕ} → Past F a b G → Fault G b.text.now b.at p → Fault F a.text.now a.at p
+stop_on x f = stop x.passes (rw x.same at f)
+
+-- bytes read in two parts
+pub then_skips : {v : List ℕ} {a b : Reader} (w : List ℕ) (c : Reader) (r : Result (Unit {0}) LineFault) → Skipped v a b → Skips w b c r → Skips (v ++ w) a c r
+then_skips w c (Ok u) h k = (k.0 ∙ h.0, stands_both h.1 (rw h.0 at k.1))
+then_skips w c (Err fault) h k = missed_second h.1 (rw h.0 at k)
+
+module _ {C : Type 0} {v w : List ℕ} {x y : C} {a b c : Reader} (K : C → Form) (f : Asked v) (g : Asked w) (differ : get_or v 0 0 ≡ get_or w 0 0 → ⊥) (bracket : Skipped (40 ∷ []) a b) where
+  pub pass_first : Skipped (v ++ 32 ∷ []) b c → Past (either (v, x) (w, y) K) a c (K x)
+  pass_first h = pass_on (past_given bracket) (record {
+    same = h.0;
+    passes = narrow_passes (omega (arith, h.1.ends, length-append v (32 ∷ []))) (narrow_first (apart_words (K y) v w b.text.now b.at c.at f g differ h.1)) (pass_given h.1);
+  })
+
+  pub pass_second : Skipped (w ++ 32 ∷ []) b c → Past (either (v, x) (w, y) K) a c (K y)
+  pass_second h = pass_on (past_given bracket) (record {
+    same = h.0;
+    passes = narrow_passes (omega (arith, h.1.ends, length-append w (32 ∷ []))) (narrow_second (apart_words (K x) w v b.text.now b.at c.at g f (λ e. differ (sym e)) h.1)) (pass_given h.1);
+  })
 
 -- a value read after a step
-pub pass_gives : {A : Type 0} {F : (A → Form) → Form} {s : List ℕ} {at n : ℕ} (G : (A → Form) → Form) (r : Result (A × ℕ) LineFault) → ((K : A → Form) → Passes (F K) s at n (G K)) → Gives G s n r → Gives F s at r
-pass_gives G (Ok v) h g = λ K. pass (h K) (g K)
-pass_gives G (Err e) h g = λ K. stop (h K) (g K)
+pub pass_gives : {A : Type 0} {F : (A → Form) → Form} {a b : Reader} (G : (A → Form) → Form) (c : Reader) (r : Result A LineFault) → ((K : A → Form) → Past (F K) a b (G K)) → Gives G b c r → Gives F a c r
+pass_gives G c (Ok v) h g = λ K. pass_on (h K) (g K)
+pass_gives G c (Err e) h g = λ K. stop_on (h K) (g K)
 
 -- a fault is handed on
-pub fault_skips : {s : List ℕ} {at : ℕ} {e : LineFault} (w : List ℕ) (r : Result ℕ LineFault) → IsErrAnd r (λ y. y ≡ e) → Missed w s at e.at → Skips w s at r
-fault_skips w r h f = let p = err_from_is_err_and r h in rw (p.1, p.2) f
+pub fault_skips : {e : LineFault} (w : List ℕ) (a b : Reader) (r : Result (Unit {0}) LineFault) → IsErrAnd r (λ y. y ≡ e) → Missed w a.text.now a.at e.at → Skips w a b r
+fault_skips w a b r h f = let p = err_from_is_err_and r h in rw (p.1, p.2) f
 
-pub fault_gives : {A : Type 0} {s : List ℕ} {at : ℕ} {e : LineFault} (F : (A → Form) → Form) (r : Result (A × ℕ) LineFault) → IsErrAnd r (λ y. y ≡ e) → ((K : A → Form) → Fault (F K) s at e.at) → Gives F s at r
-fault_gives F r h f = let p = err_from_is_err_and r h in rw (p.1, p.2) f
+pub fault_gives : {A : Type 0} {e : LineFault} (F : (A → Form) → Form) (a b : Reader) (r : Result A LineFault) → IsErrAnd r (λ y. y ≡ e) → ((K : A → Form) → Fault (F K) a.text.now a.at e.at) → Gives F a b r
+fault_gives F a b r h f = let p = err_from_is_err_and r h in rw (p.1, p.2) f

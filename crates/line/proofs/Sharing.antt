@@ -1,13 +1,14 @@
 -- The laws of the beginning that two texts share. Assumes nothing.
-use Rattle.std.proofs.Common.{◌≡◌, ℕ, suc, ◌+◌, ◌<◌, ◌≤◌, ◌⊎◌, List, [], ◌∷◌, ◌++◌, length, get_or, take, drop, sym, refl, ap, ◌∙◌, ap₂, inl, inr, ⊎_elim, append-nil, arith, take-append-drop}
-use Rattle.std.specs.List.{AllByRecursion}
+use Rattle.std.proofs.Common.{◌≡◌, ℕ, suc, ◌+◌, ◌<◌, ◌≤◌, cond, ◌==◌, ◌⊎◌, List, [], ◌∷◌, ◌++◌, length, get_or, take, drop, sym, refl, ap, ◌∙◌, ap₂, inl, inr, ⊎_elim, append-nil, arith, take-append-drop}
+use Rattle.std.specs.List.{AllByRecursion, prefix_len, zip}
+use Rattle.std.proofs.lemmas.List.Sums.{common_prefix_len-le}
 use Rattle.std.proofs.lemmas.Bool.{cases_eq, cases_lt, eq-eqb, ne_eqb}
-use Rattle.std.proofs.lemmas.List.{length-take-le, take_all, drop_more, drop_all}
+use Rattle.std.proofs.lemmas.List.{length-take-le, take_all, drop_all}
 use Rattle.line.specs.Forms.{shared}
 use Rattle.line.specs.Tokens.{Letter}
 
 pub shared_same : (c d : ℕ) (t s : List ℕ) → c ≡ d → shared (c ∷ t) (d ∷ s) ≡ suc (shared t s)
-shared_same c d t s e = rw (eq-eqb c d e)
+shared_same c d t s e = rw (eq-eqb c d e) (omega arith)
 
 pub shared_differ : (c d : ℕ) (t s : List ℕ) → (c ≡ d → ⊥) → shared (c ∷ t) (d ∷ s) ≡ 0
 shared_differ c d t s h = rw (ne_eqb c d h)
@@ -21,20 +22,18 @@ pub shared_none : (c : ℕ) (t s : List ℕ) → (get_or s 0 0 ≡ c → ⊥) �
 shared_none c t [] h = refl
 shared_none c t (d ∷ s) h = shared_differ c d t s (λ e. h (sym e))
 
-pub shared_nil : (t : List ℕ) → shared t [] ≡ 0
-shared_nil [] = refl
-shared_nil (c ∷ t) = refl
+-- what is shared, as the pairs of equal bytes that come first
+pub shared_pairs : (t s : List ℕ) → prefix_len (λ p. p.0 == p.1) (zip t s) ≡ shared t s
+shared_pairs [] s = refl
+shared_pairs (c ∷ t) [] = refl
+shared_pairs (c ∷ t) (d ∷ s) = ap (λ n. cond (c == d) (1 + n) 0) (shared_pairs t s)
 
 pub shared_append : (w t u : List ℕ) → shared (w ++ t) (w ++ u) ≡ length w + shared t u
 shared_append [] t u = omega arith
 shared_append (c ∷ w) t u = omega (arith, shared_same c c (w ++ t) (w ++ u) refl, shared_append w t u)
 
 pub shared_at_most : (t s : List ℕ) → (shared t s ≤ length t) × (shared t s ≤ length s)
-shared_at_most [] s = (omega arith, omega arith)
-shared_at_most (c ∷ t) [] = (omega arith, omega arith)
-shared_at_most (c ∷ t) (d ∷ s) =
-    let rest = shared_at_most t s in
-    elim (shared_step c d t s) [ inl h ↦ (omega arith, omega arith) | inr h ↦ (omega arith, omega arith) ]
+shared_at_most t s = common_prefix_len-le (λ c d. c == d) t s
 
 -- what is shared is equal
 pub take_shared : (t s : List ℕ) → take (shared t s) t ≡ take (shared t s) s
@@ -48,6 +47,16 @@ front_from_shared t s whole =
     let same : shared t s ≡ length t = omega (arith, shared_at_most t s) in
     let front : take (length t) s ≡ t = rw same at (sym (take_shared t s)) ∙ take_all (length t) t (omega arith) in
     sym (take-append-drop (length t) s) ∙ ap (λ w. w ++ drop (length t) s) front
+
+-- two texts that are not one do not share both whole
+pub shared_part : (t s : List ℕ) → (s ≡ t → ⊥) → (shared t s < length t) ⊎ (shared t s < length s)
+shared_part t s differ = elim (cases_lt (shared t s) (length t)) [
+  | inl less ↦ inl less
+  | inr whole ↦ elim (cases_lt (shared t s) (length s)) [
+    | inl less ↦ inr less
+    | inr all ↦ absurd (differ (front_from_shared t s whole ∙ ap (λ u. t ++ u) (drop_all (length t) s (omega (arith, shared_at_most t s))) ∙ append-nil t))
+  ]
+]
 
 pub shared_from_whole : (t s rest : List ℕ) → s ≡ t ++ rest → shared t s ≡ length t
 shared_from_whole t s rest e = ap₂ shared (sym (append-nil t)) e ∙ shared_append t [] rest ∙ omega arith
@@ -66,21 +75,6 @@ shared_short (c ∷ w) t (d ∷ s) h = elim (shared_step c d w s) [
   | inl e ↦ omega (arith, shared_same c d (w ++ t) s e.0, shared_short w t s (omega arith))
   | inr e ↦ omega (arith, shared_differ c d (w ++ t) s e.0)
 ]
-
--- one more byte is shared
-pub shared_more : (n : ℕ) (t s : List ℕ) → n < length t → n < length s → get_or t n 0 ≡ get_or s n 0 → shared (drop n t) (drop n s) ≡ suc (shared (drop (n + 1) t) (drop (n + 1) s))
-shared_more n t s h k e = ap₂ shared (drop_more t n 0 h) (drop_more s n 0 k) ∙ shared_same (get_or t n 0) (get_or s n 0) (drop (n + 1) t) (drop (n + 1) s) e
-
--- no more bytes are shared
-pub shared_no_more : (n : ℕ) (t s : List ℕ) → (n < length t → n < length s → get_or t n 0 ≡ get_or s n 0 → ⊥) → shared (drop n t) (drop n s) ≡ 0
-shared_no_more n t s ends =
-    ⊎_elim
-    (λ h. ⊎_elim
-    (λ k. ap₂ shared (drop_more t n 0 h) (drop_more s n 0 k) ∙ shared_differ (get_or t n 0) (get_or s n 0) (drop (n + 1) t) (drop (n + 1) s) (ends h k))
-    (λ k. ap (shared (drop n t)) (drop_all n s k) ∙ shared_nil (drop n t))
-    (cases_lt n (length s)))
-    (λ h. ap (λ w. shared w (drop n s)) (drop_all n t h))
-    (cases_lt n (length t))
 
 -- a word w and its space, beside a whole word v that is another
 pub shared_words : (w v more : List ℕ) → AllByRecursion Letter w → AllByRecursion Letter v → (Letter (get_or more 0 0) → ⊥) → (shared w v < length w) ⊎ (shared w v < length v) → shared (w ++ 32 ∷ []) (v ++ more) ≡ shared w v

@@ -1,7 +1,8 @@
 -- What it is to read what a line asks for at a place. Assumes nothing.
-use Rattle.std.specs.Prelude.{◌≡◌, ℕ, ◌<◌, Bool, true, false, List, [], ◌∷◌, ◌++◌, length, drop, Ok, Err, Result}
+use Rattle.std.specs.Prelude.{◌≡◌, ℕ, ◌<◌, List, [], ◌∷◌, ◌++◌, length, drop, Ok, Err, Result}
 use Rattle.std.specs.List.{AllByRecursion}
 use Rattle.line.specs.declared.line.LineFault.{LineFault}
+use Rattle.line.specs.declared.reader.Reader.{Reader}
 use Rattle.line.specs.declared.tokens.Mark.{Mark}
 use Rattle.line.specs.declared.tokens.Mark.TheVariants.{Close}
 use Rattle.line.specs.Tokens.{Letter, byte_of, Stands}
@@ -17,15 +18,20 @@ pub record Missed (w s : List ℕ) (at p : ℕ) : Type 0 where
   pub short : shared w (drop at s) < length w
   pub place : p ≡ reach s at w
 
--- the bytes w are read
-abbrev pub Skips : List ℕ → List ℕ → ℕ → Result ℕ LineFault → Type 0
-Skips w s at (Ok n) = Stands w s at n
-Skips w s at (Err fault) = Missed w s at fault.at
+-- the bytes w are read, and the reader stays in its text
+abbrev pub Skips : List ℕ → Reader → Reader → Result (Unit {0}) LineFault → Type 0
+Skips w old new (Ok _) = (new.text ≡ old.text) × Stands w old.text.now old.at new.at
+Skips w old new (Err fault) = Missed w old.text.now old.at fault.at
+
+-- F is asked of the old reader, and G of the new one, in the same text
+pub record Past (F : Form) (old new : Reader) (G : Form) : Type 0 where
+  pub same : new.text ≡ old.text
+  pub passes : Passes F old.text.now old.at new.at G
 
 -- a value is read by the form F, whatever is asked after it
-abbrev pub Gives : {A : Type 0} → ((A → Form) → Form) → List ℕ → ℕ → Result (A × ℕ) LineFault → Type 0
-Gives {A} F s at (Ok found) = (K : A → Form) → Passes (F K) s at found.1 (K found.0)
-Gives {A} F s at (Err fault) = (K : A → Form) → Fault (F K) s at fault.at
+abbrev pub Gives : {A : Type 0} → ((A → Form) → Form) → Reader → Reader → Result A LineFault → Type 0
+Gives {A} F old new (Ok v) = (K : A → Form) → Past (F K) old new (K v)
+Gives {A} F old new (Err fault) = (K : A → Form) → Fault (F K) old.text.now old.at fault.at
 
 -- `(NAME `
 abbrev pub opening : List ℕ → List ℕ
@@ -39,6 +45,6 @@ amount after K = number Close (λ n. given (byte_of after ∷ []) (K n))
 abbrev pub field : List ℕ → Mark → (ℕ → Form) → Form
 field name after K = given (opening name) (amount after K)
 
--- `(FIRST ` or `(SECOND `: whether it is the first
-abbrev pub either : List ℕ → List ℕ → (Bool → Form) → Form
-either first second K = given (40 ∷ []) (choice (given (first ++ 32 ∷ []) (K true)) (given (second ++ 32 ∷ []) (K false)))
+-- `(NAME ` with the name of one of the two: what it stands for
+abbrev pub either : {C : Type 0} → List ℕ × C → List ℕ × C → (C → Form) → Form
+either first second K = given (40 ∷ []) (choice (given (first.0 ++ 32 ∷ []) (K first.1)) (given (second.0 ++ 32 ∷ []) (K second.1)))

@@ -1,5 +1,6 @@
 -- What may stand in a text, part by part, and how far a text goes along with it. Assumes nothing.
-use Rattle.std.specs.Prelude.{◌≡◌, ℕ, suc, ◌+◌, ◌<◌, ◌≤◌, cond, ◌⊎◌, List, [], ◌∷◌, ◌++◌, length, drop, decimal, ◌==◌}
+use Rattle.std.specs.Prelude.{◌≡◌, ℕ, ◌+◌, ◌<◌, ◌≤◌, ◌⊎◌, List, [], ◌∷◌, ◌++◌, length, drop, decimal, ◌==◌}
+use Rattle.std.specs.List.{common_prefix_len}
 use Rattle.plan.specs.declared.record.Record.{Record}
 use Rattle.line.specs.declared.tokens.Mark.{Mark}
 use Rattle.line.specs.Line.{Short}
@@ -7,9 +8,7 @@ use Rattle.line.specs.Tokens.{byte_of}
 
 -- how many bytes two texts share at their beginnings
 abbrev pub shared : List ℕ → List ℕ → ℕ
-shared [] s = 0
-shared (c ∷ t) [] = 0
-shared (c ∷ t) (d ∷ s) = cond (c == d) (suc (shared t s)) 0
+shared t s = common_prefix_len (λ c d. c == d) t s
 
 -- the end; given bytes; a number and the mark after it; either of two
 pub data Form : Type 0 where

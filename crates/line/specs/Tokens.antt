@@ -1,5 +1,5 @@
 -- The tokens of a text: which bytes each one takes. A place past the end reads as byte 0, with which no token begins. Assumes nothing.
-use Rattle.std.specs.Prelude.{◌≡◌, ℕ, ◌+◌, ◌<◌, ◌≤◌, Bool, ◌⊎◌, List, ◌++◌, length, drop, Ok, Err, MatchBool, Result, ◌≢◌, slice_index, slice_index_or}
+use Rattle.std.specs.Prelude.{◌≡◌, ℕ, ◌+◌, ◌<◌, ◌≤◌, ◌⊎◌, List, ◌++◌, length, drop, Ok, Err, Result, ◌≢◌, slice_index, slice_index_or}
 use Rattle.std.specs.List.{AllByRecursion}
 use Rattle.line.specs.declared.line.LineFault.{LineFault}
 use Rattle.line.specs.declared.tokens.Mark.{Mark}
@@ -49,10 +49,6 @@ abbrev pub TokenStands : List ℕ → ℕ → Token → Type 0
 TokenStands s at (MarkToken mark) = slice_index s at ≡ byte_of mark
 TokenStands s at (Word w) = WordStands s at w.now
 TokenStands s at (Number w) = NumberStands s at w.now
-
--- whether the token is that mark
-abbrev pub Is : Token → Mark → Bool → Type 0
-Is token wanted r = MatchBool r (token ≡ MarkToken wanted) (token ≢ MarkToken wanted)
 
 -- no token begins with c
 pub record BeginsNone (c : ℕ) : Type 0 where
