@@ -1,5 +1,5 @@
-use Rattle.std.proofs.Common.{arith}
-use Rattle.delay.specs.Delayed.{counting}
+use Rattle.std.proofs.Common.{refl, arith}
+use Rattle.delay.specs.Delayed.{listed}
 use Rattle.delay.proofs.Asking.{passed, cycle_in, shift_answer}
 use Rattle.delay.proofs.delayed.Delayed.shift.Goals as goal
 
@@ -18,4 +18,4 @@ pub returns : goal.returns
 returns g c =
     let below = c.args.self.now.below in
     let m = g.T.Traffic.meaning below in
-    shift_answer m (counting m c.args.self.now.delays) c.args.node c.args.phase c.in_ok-cycle.cycle c.counting-delay.result c.back.result c.in_ok-cycle.ensures c.if-phase-cycle.false c.counting-delay.ensures c.back.ensures
+    shift_answer m (listed c.args.self.now.delays) c.args.node c.args.phase c.in_ok-cycle.cycle _ c.back.result c.in_ok-cycle.ensures c.if-phase-cycle.false refl c.back.ensures

@@ -1,6 +1,6 @@
 use Rattle.std.proofs.Common.{arith}
 use Rattle.std.proofs.lemmas.Int.{ints}
-use Rattle.delay.specs.Delayed.{counting}
+use Rattle.delay.specs.Delayed.{listed}
 use Rattle.delay.proofs.Asking.{passed, stands, place_answer, place_bounds}
 use Rattle.delay.proofs.delayed.DelayedTraffic.place.Goals as goal
 
@@ -12,7 +12,7 @@ returns-in_err-place g c =
     let below = c.args.self.now.below in
     let m = g.T.Traffic.meaning below in
     let limits = g.met.T.Traffic.limits below in
-    let delay = counting m c.args.self.now.delays in
+    let delay = listed c.args.self.now.delays in
     let i = c.args.stream in
     let p = c.args.phase in
     let s = stands m delay limits i p c.in_ok-here.ensures in
@@ -24,7 +24,7 @@ overflow_sub-result g c =
     let m = g.T.Traffic.meaning below in
     let limits = g.met.T.Traffic.limits below in
     let laws = g.met.T.Traffic.laws below in
-    let delay = counting m c.args.self.now.delays in
+    let delay = listed c.args.self.now.delays in
     let i = c.args.stream in
     let p = c.args.phase in
     let here = c.in_ok-here.here in
@@ -40,7 +40,7 @@ returns g c =
     let m = g.T.Traffic.meaning below in
     let limits = g.met.T.Traffic.limits below in
     let laws = g.met.T.Traffic.laws below in
-    let delay = counting m c.args.self.now.delays in
+    let delay = listed c.args.self.now.delays in
     let i = c.args.stream in
     let p = c.args.phase in
     let here = c.in_ok-here.here in

@@ -1,4 +1,4 @@
-use Rattle.delay.specs.Delayed.{counting}
+use Rattle.delay.specs.Delayed.{listed}
 use Rattle.delay.proofs.Asking.{passed, turns_answer}
 use Rattle.delay.proofs.delayed.DelayedTraffic.turns.Goals as goal
 
@@ -9,4 +9,4 @@ pub returns : goal.returns
 returns g c =
     let below = c.args.self.now.below in
     let m = g.T.Traffic.meaning below in
-    turns_answer m (counting m c.args.self.now.delays) (g.met.T.Traffic.limits below) c.args.node c.args.phase c.in_ok-here.ensures c.turns.ensures
+    turns_answer m (listed c.args.self.now.delays) (g.met.T.Traffic.limits below) c.args.node c.args.phase c.in_ok-here.ensures c.turns.ensures
