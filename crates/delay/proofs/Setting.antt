@@ -1,13 +1,11 @@
 -- What no delay, and delays that are set, make of a traffic. Assumes nothing.
-use Rattle.std.proofs.Common.{◌≡◌, ℕ, zero, suc, ◌+◌, ◌%◌, ◌<◌, ◌≤◌, ◌↔◌, false, ltb, List, [], length, replicate, All, Contains, IfSome, IsNone, Option, Some, None, unwrap_or, pos, ◌-ℤ◌, Ok, sym, refl, ap, ◌∙◌, add-zero, mod-eq_of_lt, arith}
+use Rattle.std.proofs.Common.{◌≡◌, ℕ, zero, suc, ◌%◌, ◌<◌, ◌≤◌, ◌↔◌, List, [], length, replicate, All, Contains, IfSome, IsNone, Option, Some, None, unwrap_or, pos, ◌-ℤ◌, sym, refl, ap, ◌∙◌, add-zero, mod-eq_of_lt, arith}
 use Rattle.std.proofs.lemmas.Int.{ints}
-use Rattle.std.proofs.lemmas.Bool.{le-ltb}
 use Rattle.std.proofs.lemmas.List.{get_or_default}
 use Rattle.bus.specs.Meaning.{Meaning}
-use Rattle.bus.specs.Refused.{answer}
 use Rattle.bus.specs.Run.{reduced}
 use Rattle.bus.proofs.Adding.{largest_at_most, largest_is}
-use Rattle.delay.specs.Delayed.{delayed, listed, largest_of, set_rules, Alike}
+use Rattle.delay.specs.Delayed.{delayed, listed, largest_of, Alike}
 
 reduced_here : (c p : ℕ) → p < c → reduced c (pos p -ℤ pos 0) ≡ p
 reduced_here c p inside = ap (λ x. x % c) (add-zero p) ∙ mod-eq_of_lt inside
@@ -32,13 +30,6 @@ listed_none (suc k) (suc n) = listed_none k n
 -- without delays a traffic is as below
 pub undelayed_alike : (m : Meaning) → Alike m (delayed m (listed (replicate 16 0)))
 undelayed_alike m = undelayed m (listed (replicate 16 0)) (listed_none 16)
-
--- delays that no rule refuses, with the largest of them and the reach below
-pub set_answer : (m : Meaning) (delays : List ℕ) (reach largest : ℕ) → reach ≡ m.reach → largest ≡ largest_of delays → reach + largest ≤ 16777216 → largest ≤ 1048576 → Ok (tt {0}) ≡ answer (set_rules m delays) (tt {0})
-set_answer m delays reach largest reach-is largest_is fits short =
-    let delay : ltb 1048576 (largest_of delays) ≡ false = le-ltb 1048576 (largest_of delays) (omega arith) in
-    let reached : ltb 16777216 (m.reach + largest_of delays) ≡ false = le-ltb 16777216 (m.reach + largest_of delays) (omega arith) in
-    rw (delay, reached)
 
 -- the largest of the 16 is a bound on them that is one of them
 pub largest_found : (delays : List ℕ) (o : Option ℕ) → length delays ≡ 16 → (IsNone o ↔ (delays ≡ [])) → IfSome o (Contains delays) → IfSome o (λ most. All (λ d. d ≤ most) delays) → unwrap_or o 0 ≡ largest_of delays

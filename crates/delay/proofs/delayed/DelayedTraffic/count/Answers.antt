@@ -1,6 +1,6 @@
 use Rattle.std.proofs.Common.{◌+◌, ◌≤◌, subst, arith}
 use Rattle.delay.specs.Delayed.{listed}
-use Rattle.delay.proofs.Asking.{passed, stands, window_fits, count_answer}
+use Rattle.delay.proofs.Asking.{passed, stands, count_answer}
 use Rattle.delay.proofs.delayed.DelayedTraffic.count.Goals as goal
 
 pub returns-in_err-here : goal.returns-in_err-here
@@ -12,7 +12,7 @@ overflow_add-window g c =
     let m = g.T.Traffic.meaning below in
     let limits = g.met.T.Traffic.limits below in
     let s = stands m (listed c.args.self.now.delays) limits c.args.stream c.args.phase c.in_ok-here.ensures in
-    window_fits c.args.window c.reach.result c.in_ok-here.here.delay _ c.reach.ensures s.small (omega (arith, c.if-window-reach.false))
+    omega (arith, s.small, c.reach.ensures, c.if-window-reach.false)
 
 pub returns : goal.returns
 returns g c =
