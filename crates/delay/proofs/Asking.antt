@@ -1,5 +1,5 @@
 -- The answers of a delayed traffic, from those of the traffic below. Assumes nothing.
-use Rattle.std.proofs.Common.{◌≡◌, ℕ, ◌+◌, ◌^◌, ◌<◌, ◌≤◌, ◌⊎◌, ℤ, pos, ◌-ℤ◌, neg_ℤ, ◌≤ℤ◌, ◌<ℤ◌, IsErrAnd, Ok, Err, Result, sym, refl, ap, ◌∙◌, subst, inl, inr, arith}
+use Rattle.std.proofs.Common.{◌≡◌, ℕ, ◌+◌, ◌^◌, ◌<◌, ◌≤◌, ℤ, pos, ◌-ℤ◌, neg_ℤ, ◌≤ℤ◌, ◌<ℤ◌, IsErrAnd, Ok, Err, Result, sym, refl, ap, ◌∙◌, subst, arith}
 use Rattle.std.proofs.lemmas.Result.{err_from_is_err_and}
 use Rattle.std.proofs.lemmas.Int.{ints}
 use Rattle.bus.specs.declared.refusal.Refusal.{Refusal}
@@ -7,6 +7,7 @@ use Rattle.bus.specs.Asked.{Asked, CycleAsked, StreamAsked, PlaceAsked, CountAsk
 use Rattle.bus.specs.Meaning.{Meaning, Limits, Laws, count}
 use Rattle.bus.proofs.Adding.{largest_has}
 use Rattle.bus.proofs.Answered.{within, answer, below_or_not}
+use Rattle.bus.proofs.Finding.{both_or_not}
 use Rattle.bus.proofs.Growing.{far}
 use Rattle.delay.specs.declared.delayed.Shift.{Shift}
 use Rattle.delay.specs.Delayed.{earlier, delayed, shifted, ShiftAsked, StreamShiftAsked}
@@ -28,11 +29,6 @@ passed {r = r} a part on =
 -- the same question in other words
 alike : {A : Type 0} {fits fits' : Type 0} {v w : A} {r : Result A Refusal} → Asked fits v r → (fits' → fits) → (fits → fits') → v ≡ w → Asked fits' w r
 alike a to from same = record { answered = λ f. a.answered (to f) ∙ ap Ok same; refused = λ none. a.refused (λ f. none (from f)) }
-
-both : {P Q : Type 0} → P ⊎ (P → ⊥) → Q ⊎ (Q → ⊥) → (P × Q) ⊎ (P × Q → ⊥)
-both (inl p) (inl q) = inl (p, q)
-both (inl p) (inr n) = inr (λ x. n x.1)
-both (inr n) q = inr (λ x. n x.0)
 
 pub cycle_in : (m : Meaning) (n : ℕ) {c : ℕ} → CycleAsked m n (Ok c) → (n < 16) × (c ≡ m.cycle n)
 cycle_in m n a = within (below_or_not n 16) a refl
@@ -60,7 +56,7 @@ module _ (m : Meaning) (delay : ℕ → ℕ) where
 
     pub stands : (i p : ℕ) {here : Shift} → StreamShiftAsked m delay i p (Ok here) → Stands i p here
     stands i p {here} a =
-        let k = within (both (below_or_not i m.streams) (below_or_not p (m.cycle (m.node i)))) a refl in
+        let k = within (both_or_not (below_or_not i m.streams) (below_or_not p (m.cycle (m.node i)))) a refl in
         let phase_is : here.phase ≡ earlier m delay (m.node i) p = ap (λ (s : Shift). s.phase) k.1 in
         let delay_is : here.delay ≡ delay (m.node i) = ap (λ (s : Shift). s.delay) k.1 in
         let node = limits.node_below i k.0.0 in
@@ -72,7 +68,7 @@ module _ (m : Meaning) (delay : ℕ → ℕ) where
     -- of a place that is known but for the instance
     place_in : (q : ℕ) {x : ℤ} → PlaceAsked m i here.phase q (Ok x) → (1 ≤ q) × (q ≤ 4194306) × (x ≡ m.place i here.phase q)
     place_in q a =
-        let k = within (both (below_or_not 0 q) (below_or_not q 4194307)) (alike a (λ f. (s.known, s.inside_below, omega (arith, f.0), omega (arith, f.1))) (λ f. (f.2, omega (arith, f.3))) refl) refl in
+        let k = within (both_or_not (below_or_not 0 q) (below_or_not q 4194307)) (alike a (λ f. (s.known, s.inside_below, omega (arith, f.0), omega (arith, f.1))) (λ f. (f.2, omega (arith, f.3))) refl) refl in
         (k.0.0, omega (arith, k.0.1), k.1)
 
     pub place_answer : (q : ℕ) {x y : ℤ} → y ≡ x -ℤ pos here.delay → PlaceAsked m i here.phase q (Ok x) → PlaceAsked (delayed m delay) i p q (Ok y)
