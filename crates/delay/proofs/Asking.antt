@@ -1,13 +1,13 @@
 -- The answers of a delayed traffic, from those of the traffic below. Assumes nothing.
-use Rattle.std.proofs.Common.{◌≡◌, ℕ, ◌+◌, ◌^◌, ◌<◌, ◌≤◌, ◌⊎◌, ℤ, pos, ◌-ℤ◌, neg_ℤ, ◌≤ℤ◌, ◌<ℤ◌, IsErrAnd, Ok, Err, Result, sym, refl, ap, ◌∙◌, subst, inl, inr, arith, w32, Fits}
+use Rattle.std.proofs.Common.{◌≡◌, ℕ, ◌+◌, ◌^◌, ◌<◌, ◌≤◌, ℤ, pos, ◌-ℤ◌, neg_ℤ, ◌≤ℤ◌, ◌<ℤ◌, IsErrAnd, Ok, Err, Result, sym, refl, ap, ◌∙◌, subst, arith}
 use Rattle.std.proofs.lemmas.Result.{err_from_is_err_and}
 use Rattle.std.proofs.lemmas.Int.{ints}
 use Rattle.bus.specs.declared.refusal.Refusal.{Refusal}
-use Rattle.bus.specs.Asked.{Asked, CycleAsked, StreamAsked, PlaceAsked, CountAsked, TurnsAsked}
+use Rattle.bus.specs.Asked.{Asked, CycleAsked, StreamAsked, PlaceAsked, CountAsked}
 use Rattle.bus.specs.Meaning.{Meaning, Limits, Laws, count}
-use Rattle.bus.specs.Run.{reduced}
 use Rattle.bus.proofs.Adding.{largest_has}
 use Rattle.bus.proofs.Answered.{within, answer, below_or_not}
+use Rattle.bus.proofs.Finding.{both_or_not}
 use Rattle.bus.proofs.Growing.{far}
 use Rattle.delay.specs.declared.delayed.Shift.{Shift}
 use Rattle.delay.specs.Delayed.{earlier, delayed, shifted, ShiftAsked, StreamShiftAsked}
@@ -30,24 +30,10 @@ passed {r = r} a part on =
 alike : {A : Type 0} {fits fits' : Type 0} {v w : A} {r : Result A Refusal} → Asked fits v r → (fits' → fits) → (fits → fits') → v ≡ w → Asked fits' w r
 alike a to from same = record { answered = λ f. a.answered (to f) ∙ ap Ok same; refused = λ none. a.refused (λ f. none (from f)) }
 
-both : {P Q : Type 0} → P ⊎ (P → ⊥) → Q ⊎ (Q → ⊥) → (P × Q) ⊎ (P × Q → ⊥)
-both (inl p) (inl q) = inl (p, q)
-both (inl p) (inr n) = inr (λ x. n x.1)
-both (inr n) q = inr (λ x. n x.0)
-
 pub cycle_in : (m : Meaning) (n : ℕ) {c : ℕ} → CycleAsked m n (Ok c) → (n < 16) × (c ≡ m.cycle n)
 cycle_in m n a = within (below_or_not n 16) a refl
 
-pub window_fits : (w r d x : ℕ) → r ≡ x → d ≤ x → w + r ≤ 20971520 → Fits w32 (w + d)
-window_fits w r d x is small fits = omega arith
-
 module _ (m : Meaning) (delay : ℕ → ℕ) where
-  pub shift_answer : (n p c e p' : ℕ) → CycleAsked m n (Ok c) → p < c → e ≡ delay n → p' ≡ reduced c (pos p -ℤ pos e) → ShiftAsked m delay n p (Ok (record { phase = p'; delay = e }))
-  shift_answer n p c e p' a inside later moved =
-      let k = cycle_in m n a in
-      let is = k.1 in
-      answer (k.0, omega arith) (cc)
-
   -- stream i at its node's phase p stands below as `here` says
   pub record Stands (i p : ℕ) (here : Shift) : Type 0 where
     pub known : i < m.streams
@@ -68,16 +54,9 @@ module _ (m : Meaning) (delay : ℕ → ℕ) where
         (λ f. (k.0, subst (λ x. p < m.cycle x) is f.1))
         (ap (λ x. shifted m delay x p) is)
 
-    pub turns_answer : (n p : ℕ) {here : Shift} {r : Result _ Refusal} → ShiftAsked m delay n p (Ok here) → TurnsAsked m n here.phase r → TurnsAsked (delayed m delay) n p r
-    turns_answer n p {here} a asked =
-        let k = within (both (below_or_not n 16) (below_or_not p (m.cycle n))) a refl in
-        let is : here.phase ≡ earlier m delay n p = ap (λ (s : Shift). s.phase) k.1 in
-        let below = earlier_below m limits delay n p k.0.0 in
-        alike asked (λ f. (f.0, omega arith)) (λ f. k.0) (ap (m.turns n) is)
-
     pub stands : (i p : ℕ) {here : Shift} → StreamShiftAsked m delay i p (Ok here) → Stands i p here
     stands i p {here} a =
-        let k = within (both (below_or_not i m.streams) (below_or_not p (m.cycle (m.node i)))) a refl in
+        let k = within (both_or_not (below_or_not i m.streams) (below_or_not p (m.cycle (m.node i)))) a refl in
         let phase_is : here.phase ≡ earlier m delay (m.node i) p = ap (λ (s : Shift). s.phase) k.1 in
         let delay_is : here.delay ≡ delay (m.node i) = ap (λ (s : Shift). s.delay) k.1 in
         let node = limits.node_below i k.0.0 in
@@ -89,7 +68,7 @@ module _ (m : Meaning) (delay : ℕ → ℕ) where
     -- of a place that is known but for the instance
     place_in : (q : ℕ) {x : ℤ} → PlaceAsked m i here.phase q (Ok x) → (1 ≤ q) × (q ≤ 4194306) × (x ≡ m.place i here.phase q)
     place_in q a =
-        let k = within (both (below_or_not 0 q) (below_or_not q 4194307)) (alike a (λ f. (s.known, s.inside_below, omega (arith, f.0), omega (arith, f.1))) (λ f. (f.2, omega (arith, f.3))) refl) refl in
+        let k = within (both_or_not (below_or_not 0 q) (below_or_not q 4194307)) (alike a (λ f. (s.known, s.inside_below, omega (arith, f.0), omega (arith, f.1))) (λ f. (f.2, omega (arith, f.3))) refl) refl in
         (k.0.0, omega (arith, k.0.1), k.1)
 
     pub place_answer : (q : ℕ) {x y : ℤ} → y ≡ x -ℤ pos here.delay → PlaceAsked m i here.phase q (Ok x) → PlaceAsked (delayed m delay) i p q (Ok y)

@@ -1,5 +1,5 @@
 -- The first turning phase of a delayed traffic, from those of the traffic below. Assumes nothing.
-use Rattle.std.proofs.Common.{◌≡◌, ℕ, ◌+◌, ◌-◌, ◌%◌, ◌<◌, ◌≤◌, false, pos, ◌-ℤ◌, IsErrAnd, Some, None, Ok, Err, Option, Result, sym, ap, ◌∙◌, subst, ⊎_elim, mod-lt, arith}
+use Rattle.std.proofs.Common.{◌≡◌, ℕ, ◌+◌, ◌-◌, ◌%◌, ◌<◌, ◌≤◌, false, pos, ◌-ℤ◌, Some, None, Ok, Err, Option, sym, ap, ◌∙◌, subst, ⊎_elim, mod-lt, arith}
 use Rattle.std.proofs.lemmas.Bool.{cases_lt}
 use Rattle.bus.specs.declared.refusal.Refusal.{Refusal}
 use Rattle.bus.specs.Asked.{CycleAsked, NextTurnAsked, FirstTurn}
@@ -7,37 +7,31 @@ use Rattle.bus.specs.Meaning.{Meaning}
 use Rattle.bus.specs.Run.{reduced}
 use Rattle.delay.specs.Delayed.{delayed, earlier}
 use Rattle.delay.specs.Reducing.{reduced_down, reduced_up}
-use Rattle.delay.proofs.Asking.{out, passed, cycle_in}
+use Rattle.delay.proofs.Asking.{cycle_in}
 
 module _ (m : Meaning) (delay : ℕ → ℕ) (n p : ℕ) where
-  -- node n has a cycle of c phases, p is one of them, and its delay is e
-  pub record Turning (c e : ℕ) : Type 0 where
+  abbrev e : ℕ
+  e = delay n
+
+  -- node n has a cycle of c phases, and p is one of them
+  pub record Turning (c : ℕ) : Type 0 where
     pub known : n < 16
     pub inside : p < c
     pub cycle_is : c ≡ m.cycle n
-    pub delay_is : e ≡ delay n
     pub over : e % c < c
 
-  pub turning : (c e : ℕ) → CycleAsked m n (Ok c) → p < c → e ≡ delay n → Turning c e
-  turning c e a inside is =
+  pub turning : (c : ℕ) → CycleAsked m n (Ok c) → p < c → Turning c
+  turning c a inside =
       let k = cycle_in m n a in
-      record { known = k.0; inside = inside; cycle_is = k.1; delay_is = is; over = mod-lt e (omega arith) }
+      record { known = k.0; inside = inside; cycle_is = k.1; over = mod-lt e (omega arith) }
 
-  pub turn_passed : {x : Refusal} {r : Result (Option ℕ) Refusal} → CycleAsked m n (Err x) → IsErrAnd r (λ y. y ≡ x) → NextTurnAsked (delayed m delay) n p r
-  turn_passed {r = r} a on =
-      let k = passed {fits' = (n < 16) × (p < m.cycle n)} {w = None} a (λ f. f.0) on in
-      record { answered = λ f _. absurd (out a f); refused = k.refused }
-
-  module _ (c e : ℕ) (s : Turning c e) where
+  module _ (c : ℕ) (s : Turning c) where
     -- what is asked below is answered
-    pub early_asked : {x : Refusal} → p < e % c → NextTurnAsked m n (p + c - e % c) (Err x) → ⊥
-    early_asked early a = a.answered s.known (let over = s.over in omega (arith, s.cycle_is))
-
     pub late_asked : {x : Refusal} (q : ℕ) → q ≡ p - e % c → NextTurnAsked m n q (Err x) → ⊥
     late_asked q from a = a.answered s.known (omega (arith, s.inside, s.cycle_is))
 
     below_is : (k : ℕ) → earlier m delay n k ≡ reduced c (pos k -ℤ pos e)
-    below_is k = ap (λ x. reduced x (pos k -ℤ pos (delay n))) (sym s.cycle_is) ∙ ap (λ x. reduced c (pos k -ℤ pos x)) (sym s.delay_is)
+    below_is k = ap (λ x. reduced x (pos k -ℤ pos e)) (sym s.cycle_is)
 
     turns_down : (k : ℕ) → k < c → e % c ≤ k → m.turns n (earlier m delay n k) ≡ m.turns n (k - e % c)
     turns_down k h l = ap (m.turns n) (below_is k ∙ reduced_down c k e h l)

@@ -1,5 +1,6 @@
 -- The senders of a sheet: the traffic that they make, and what noting one more does. Assumes nothing.
-use Rattle.std.specs.Prelude.{ℕ, ◌<◌, Bool, false, ◌||◌, List, [], ◌∷◌, ◌++◌, length, pos, ◌-ℤ◌, ◌==◌, ◌≢◌, nat_le, slice_index_or}
+use Rattle.std.specs.Prelude.{ℕ, ◌<◌, Bool, false, List, [], ◌∷◌, ◌++◌, length, pos, ◌-ℤ◌, ◌==◌, ◌≢◌, nat_le, slice_index_or}
+use Rattle.std.specs.List.{list_any}
 use Rattle.bus.specs.declared.refusal.Refusal.TheVariants.{Held, Full}
 use Rattle.bus.specs.Refused.{Rules}
 use Rattle.bus.specs.Frame.{longest}
@@ -32,8 +33,7 @@ measured senders = record {
 
 -- whether an identifier is held
 abbrev pub holds : List Sender → ℕ → Bool
-holds [] identifier = false
-holds (sender ∷ senders) identifier = sender.identifier == identifier || holds senders identifier
+holds senders identifier = list_any (λ sender. sender.identifier == identifier) senders
 
 -- what can refuse one more sender
 abbrev pub note_rules : List Sender → Sender → Rules

@@ -16,7 +16,7 @@ const MOST_JITTER: u32 = 1_048_576;
 const LONGEST_SPAN: u32 = 8_388_608;
 
 // The spans are the least that 2, 3, .., 8 arrivals in a row lie apart.
-#[derive(Clone, Copy)]
+#[derive(Clone, Copy, PartialEq, Eq, Debug)]
 pub struct Sender {
     pub node: u32,
     pub identifier: u32,
@@ -30,6 +30,7 @@ impl Sender {
     pub(crate) fn check(&self) -> Result<(), Refusal>
         ensures { result ≡ answer (limits self.now) tt }
     {
+        // A plan's record is asked the first three too, of u64: one function for both would take three conversions here.
         if self.identifier > MOST_IDENTIFIER {
             return Err(Refusal::Identifier);
         }
@@ -48,17 +49,11 @@ impl Sender {
         Ok(())
     }
 
+    // Whether the spans rise from 0 and stay within the longest.
     fn spans_fit(&self) -> bool
         ensures { result ≡ spans_fit self.now.spans }
     {
-        let mut last = 0;
-        for k in 0..7 {
-            if self.spans[k] <= last {
-                return false;
-            }
-            last = self.spans[k];
-        }
-        last <= LONGEST_SPAN
+        self.spans[0] > 0 && self.spans.is_sorted_by(|a, b| a < b) && self.spans[6] <= LONGEST_SPAN
     }
 
     // How far so many arrivals in a row lie apart at least.
@@ -84,10 +79,7 @@ impl Sender {
     {
         let turn = self.spans[6];
         let rest = length % turn;
-        let mut held = 1;
-        while held < 7 && self.spans[held - 1] <= rest {
-            held += 1;
-        }
-        length / turn * 7 + held as u32
+        let more = self.spans.partition_point(|&span| span <= rest);
+        length / turn * 7 + 1 + more as u32
     }
 }

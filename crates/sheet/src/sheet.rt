@@ -58,12 +58,9 @@ impl Sheet {
     fn holds(&self, identifier: u32) -> bool
         ensures { result ≡ holds self.now.senders.items identifier }
     {
-        for sender in self.senders.iter() {
-            if sender.identifier == identifier {
-                return true;
-            }
-        }
-        false
+        self.senders
+            .iter()
+            .any(|sender| sender.identifier == identifier)
     }
 
     fn sender(&self, stream: u32) -> Result<Sender, Refusal>
@@ -127,16 +124,14 @@ impl Traffic for Sheet {
     }
 
     fn turns(&self, node: u32, phase: u32) -> Result<bool, Refusal> {
-        if node > MOST_NODE || phase > 0 {
+        if phase >= self.cycle(node)? {
             return Err(Refusal::Question);
         }
         Ok(false)
     }
 
     fn next_turn(&self, node: u32, phase: u32) -> Result<Option<u32>, Refusal> {
-        if node > MOST_NODE || phase > 0 {
-            return Err(Refusal::Question);
-        }
+        self.turns(node, phase)?;
         Ok(None)
     }
 }

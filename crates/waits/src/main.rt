@@ -6,27 +6,11 @@ use std::io::Read;
 use table::answer::answer;
 
 // A table has no more bytes than this.
-const LONGEST_TEXT: usize = 16_384;
-
-// The input, as far as one byte past the longest text: that it is too long can be told then. Each turn reads a byte at least.
-fn read_text(rt: &HostRuntime) -> io::Result<Vec<u8>> {
-    let mut text = Vec::new(rt.alloc());
-    let mut input = rt.stdin();
-    let mut part = [0u8; 4096];
-    for _ in 0..=LONGEST_TEXT {
-        if text.len() > LONGEST_TEXT {
-            break;
-        }
-        let count = input.read(&mut part)?;
-        if count == 0 {
-            break;
-        }
-        text.extend_from_slice(&part[0..count])?;
-    }
-    Ok(text)
-}
+const LONGEST_TEXT: u64 = 16_384;
 
 fn main(rt: HostRuntime) -> io::Result<()> {
-    let text = read_text(&rt)?;
+    let mut text = Vec::new(rt.alloc());
+    // One byte past the longest text tells that it is too long.
+    rt.stdin().take(LONGEST_TEXT + 1).read_to_end(&mut text)?;
     rt.print(answer(rt.alloc(), &text)?)
 }

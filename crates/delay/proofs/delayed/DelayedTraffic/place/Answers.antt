@@ -1,22 +1,11 @@
 use Rattle.std.proofs.Common.{arith}
 use Rattle.std.proofs.lemmas.Int.{ints}
-use Rattle.delay.specs.Delayed.{counting}
+use Rattle.delay.specs.Delayed.{listed}
 use Rattle.delay.proofs.Asking.{passed, stands, place_answer, place_bounds}
 use Rattle.delay.proofs.delayed.DelayedTraffic.place.Goals as goal
 
 pub returns-in_err-here : goal.returns-in_err-here
 returns-in_err-here g c = passed c.in_err-here.ensures (λ f. (f.0, f.1)) c.from_residual.ensures.1
-
-pub returns-in_err-place : goal.returns-in_err-place
-returns-in_err-place g c =
-    let below = c.args.self.now.below in
-    let m = g.T.Traffic.meaning below in
-    let limits = g.met.T.Traffic.limits below in
-    let delay = counting m c.args.self.now.delays in
-    let i = c.args.stream in
-    let p = c.args.phase in
-    let s = stands m delay limits i p c.in_ok-here.ensures in
-    passed c.in_err-place.ensures (λ f. (f.0, s.inside_below, f.2, f.3)) c.from_residual-in_err-place.ensures.1
 
 pub overflow_sub-result : goal.overflow_sub-result
 overflow_sub-result g c =
@@ -24,7 +13,7 @@ overflow_sub-result g c =
     let m = g.T.Traffic.meaning below in
     let limits = g.met.T.Traffic.limits below in
     let laws = g.met.T.Traffic.laws below in
-    let delay = counting m c.args.self.now.delays in
+    let delay = listed c.args.self.now.delays in
     let i = c.args.stream in
     let p = c.args.phase in
     let here = c.in_ok-here.here in
@@ -40,7 +29,7 @@ returns g c =
     let m = g.T.Traffic.meaning below in
     let limits = g.met.T.Traffic.limits below in
     let laws = g.met.T.Traffic.laws below in
-    let delay = counting m c.args.self.now.delays in
+    let delay = listed c.args.self.now.delays in
     let i = c.args.stream in
     let p = c.args.phase in
     let here = c.in_ok-here.here in

@@ -1,27 +1,28 @@
-use Rattle.std.proofs.Common.{◌≡◌, ◌+◌, ◌-◌, ◌*◌, ◌/◌, ◌%◌, ◌<◌, get_or, ap, ◌∙◌, mod-lt, div-add-mod', arith}
+use Rattle.std.proofs.Common.{◌≡◌, ◌+◌, ◌*◌, ◌/◌, ◌%◌, ◌<◌, leb, length, get_or, ap, mod-lt, div-add-mod', arith, rules}
+use Rattle.std.proofs.lemmas.List.Sorted.{IsPartitionPoint-from_clause, IsPartitionedBy-leb}
 use Rattle.sheet.specs.Sender.{span}
-use Rattle.sheet.specs.Spanning.{span_given, span_turned}
+use Rattle.sheet.specs.Spanning.{span_turned}
 use Rattle.sheet.specs.Limited.{fit}
+use Rattle.sheet.proofs.Rising.{rising_sorted, cut}
 use Rattle.sheet.proofs.sender.Sender.within.Goals as goal
-use Rattle.sheet.proofs.sender.Sender.within.Goals.{then-loop-held-test+else-self-held, else-loop-held-test}
 
 pub returns : goal.returns
 returns c =
     let spans = c.args.self.now.spans in
-    let length = c.args.length in
+    let span_of_all = c.args.length in
     let turn = get_or spans 6 0 in
-    let held = c.loop-held.held in
-    let some = c.loop-held.invariant.0 in
-    let few = c.loop-held.invariant.1 in
-    let rises = (fit c.args.self.now c.requires.0).rising 6 (omega arith) in
-    let given : get_or spans (held - 1) 0 ≡ span spans (held + 1) = span_given spans (held - 1) (omega arith) ∙ ap (span spans) (let e : held - 1 + 2 ≡ held + 1 = omega arith in e) in
-    let below : length % turn < span spans (held + 1) =
-    elim c.loop-held-test.branch [
-      | then-loop-held-test+else-self-held w ↦ omega (arith, w.if-self-held.false)
-      | else-loop-held-test w ↦ let last : 6 ≡ held - 1 = omega (arith, w.loop-held-test.false) in omega (arith, ap (λ k. get_or spans k 0) last, mod-lt length (let long : 0 < turn = omega arith in long))
-    ] in
-    let parts = div-add-mod' length turn in
-    let here = span_turned spans (length / turn) held some in
-    let next = span_turned spans (length / turn) (held + 1) (omega arith) in
-    let on = ap (span spans) (let e : length / turn * 7 + (held + 1) ≡ length / turn * 7 + held + 1 = omega arith in e) in
+    let rest = span_of_all % turn in
+    let more = c.partition_point-more.result in
+    let f = fit c.args.self.now c.requires.0 in
+    let seven : length spans ≡ 7 = search rules in
+    let long : 0 < turn = (let up = f.rising 6 (omega arith) in omega arith) in
+    let point = IsPartitionPoint-from_clause (λ y. leb y rest) _ _ c.partition_point-more.ensures.partitioned (IsPartitionedBy-leb (λ y. y) spans rest (rising_sorted spans seven f.rising)) (λ a r q k. search rules) in
+    let parted = cut spans seven rest more c.partition_point-more.ensures.bound (mod-lt span_of_all long) point in
+    let low = parted.0 in
+    let high = parted.1 in
+    let parts = div-add-mod' span_of_all turn in
+    let here = span_turned spans (span_of_all / turn) (more + 1) (omega arith) in
+    let next = span_turned spans (span_of_all / turn) (more + 2) (omega arith) in
+    let at = ap (span spans) (let e : span_of_all / turn * 7 + (more + 1) ≡ span_of_all / turn * 7 + 1 + more = omega arith in e) in
+    let on = ap (span spans) (let e : span_of_all / turn * 7 + (more + 2) ≡ span_of_all / turn * 7 + 1 + more + 1 = omega arith in e) in
     record { some = omega arith; last = omega arith; next = omega arith }
