@@ -1,20 +1,13 @@
 -- What is read at the beginning of a text, and the calls that have been read. Assumes nothing.
-use Rattle.std.proofs.Common.{◌≡◌, ℕ, ◌-◌, ◌<◌, ◌≤◌, List, [], ◌∷◌, ◌++◌, length, take, drop, sym, ap, ◌∙◌, append_assoc, arith, length-append, length-drop}
+use Rattle.std.proofs.Common.{◌≡◌, ℕ, ◌<◌, List, [], ◌∷◌, ◌++◌, length, sym, ap, ◌∙◌, append_assoc, arith, length-append}
 use Rattle.std.specs.List.{flat_map, AllByRecursion}
 use Rattle.std.proofs.ByRecursion.{All-push}
-use Rattle.std.proofs.lemmas.List.{flat_map_more, take_all}
+use Rattle.std.proofs.lemmas.List.{flat_map_more}
 use Rattle.life.specs.declared.life.Call.{Call}
 use Rattle.script.specs.Calls.{Begins, LawfulCall, call_line, word_of, argument_text}
 use Rattle.script.specs.Words.{word_text}
 use Rattle.script.specs.declared.words.Word.{Word}
 use Rattle.script.specs.declared.words.Word.TheVariants.{Enter, Alter, Strike, Settle, Reopen, Verdict, Row}
-
-module _ {A : Type 0} (Allowed : A → Type 0) (text : A → List ℕ) (s : List ℕ) (value : A) (next : ℕ) (is : s ≡ text value ++ drop next s) (ends : next ≡ length (text value)) where
-  pub line_within : next ≤ length s
-  line_within = omega (arith, ap length is, length-append (text value) (drop next s))
-
-  pub begins_with : Allowed value → Begins Allowed text s value (take (length s - next) (drop next s))
-  begins_with lawful = record { lawful = lawful; is = is ∙ ap (λ rest. text value ++ rest) (sym (take_all (length s - next) (drop next s) (omega (arith, length-drop next s)))) }
 
 -- these calls have been read, and the rest has not
 pub record Gone (text : List ℕ) (calls : List Call) (rest : List ℕ) : Type 0 where
