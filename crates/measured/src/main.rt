@@ -2,7 +2,7 @@
 #![tactic(auto)]
 
 use bus::traffic::Traffic;
-use engine::bound::{Outcome, bound};
+use engine::bound::bound;
 use sheet::sender::Sender;
 use sheet::sheet::Sheet;
 use std::io;
@@ -106,7 +106,7 @@ fn main(rt: HostRuntime) -> io::Result<()> {
     for sender in SENDERS {
         match sheet.note(sender) {
             Ok(held) => println!(rt; "noted {held}")?,
-            Err(refusal) => println!(rt; "refused {}", refusal.number())?,
+            Err(refusal) => println!(rt; "refused {refusal}")?,
         }
     }
     for (stream, instance) in PLACES {
@@ -117,9 +117,9 @@ fn main(rt: HostRuntime) -> io::Result<()> {
     for stream in 0..sheet.streams() {
         if let Ok(identifier) = sheet.identifier(stream) {
             match bound(&sheet, stream) {
-                Ok(Outcome::Bounded(longest)) => println!(rt; "bound {identifier} {longest}")?,
-                Ok(Outcome::Unsettled) => println!(rt; "bound {identifier} unsettled")?,
-                Err(refusal) => println!(rt; "refused {}", refusal.number())?,
+                Ok(Some(longest)) => println!(rt; "bound {identifier} {longest}")?,
+                Ok(None) => println!(rt; "bound {identifier} unsettled")?,
+                Err(refusal) => println!(rt; "refused {refusal}")?,
             }
         }
     }

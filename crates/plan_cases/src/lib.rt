@@ -228,18 +228,8 @@ mod tests {
         Ok(())
     }
 
-    fn met(bound: u32) -> Result<Verdict, Refusal> {
-        Ok(Verdict::Bound {
-            bound,
-            judgement: Judgement::Met,
-        })
-    }
-
-    fn late(bound: u32) -> Result<Verdict, Refusal> {
-        Ok(Verdict::Bound {
-            bound,
-            judgement: Judgement::Late,
-        })
+    fn told(bound: u32, judgement: Judgement) -> Result<Option<Verdict>, Refusal> {
+        Ok(Some(Verdict { bound, judgement }))
     }
 
     // The verdict on a message that is alone, with the jitter and due at 400.
@@ -247,7 +237,7 @@ mod tests {
         heap: Global,
         kind: Kind,
         jitter: u64,
-    ) -> Result<Result<Verdict, Refusal>, AllocError> {
+    ) -> Result<Result<Option<Verdict>, Refusal>, AllocError> {
         let mut plan = OpenPlan::new(heap)?;
         let mut only = message(10, 1, kind);
         only.jitter = jitter;
@@ -263,14 +253,17 @@ mod tests {
             offset: 0,
             gap: 400,
         };
-        assert_eq!(rt; alone(heap, timed(400, 0), 0)?, met(110));
-        assert_eq!(rt; alone(heap, mixed, 0)?, met(165));
-        assert_eq!(rt; alone(heap, Kind::Sporadic { gap: 200 }, 450)?, late(560));
+        assert_eq!(rt; alone(heap, timed(400, 0), 0)?, told(110, Judgement::Met));
+        assert_eq!(rt; alone(heap, mixed, 0)?, told(165, Judgement::Met));
         assert_eq!(rt;
-            alone(heap, Kind::Sporadic { gap: 55 }, 0)?,
-            Ok(Verdict::Unsettled)
+            alone(heap, Kind::Sporadic { gap: 200 }, 450)?,
+            told(560, Judgement::Late)
         );
-        assert_eq!(rt; alone(heap, Kind::Sporadic { gap: 56 }, 0)?, met(110));
+        assert_eq!(rt; alone(heap, Kind::Sporadic { gap: 55 }, 0)?, Ok(None));
+        assert_eq!(rt;
+            alone(heap, Kind::Sporadic { gap: 56 }, 0)?,
+            told(110, Judgement::Met)
+        );
         Ok(())
     }
 
@@ -279,17 +272,17 @@ mod tests {
         let mut one_node = OpenPlan::new(rt.alloc())?;
         let _ = one_node.enter(message(10, 1, timed(400, 0)));
         let _ = one_node.enter(message(20, 1, timed(400, 200)));
-        assert_eq!(rt; judge(&one_node, 10, 110), met(110));
-        assert_eq!(rt; judge(&one_node, 20, 109), late(110));
+        assert_eq!(rt; judge(&one_node, 10, 110), told(110, Judgement::Met));
+        assert_eq!(rt; judge(&one_node, 20, 109), told(110, Judgement::Late));
         assert_eq!(rt; judge(&one_node, 30, 400), Err(Refusal::NotHeld));
         let mut two_nodes = OpenPlan::new(rt.alloc())?;
         let _ = two_nodes.enter(message(10, 1, timed(400, 0)));
         let _ = two_nodes.enter(message(20, 2, timed(400, 200)));
-        assert_eq!(rt; judge(&two_nodes, 20, 400), met(165));
+        assert_eq!(rt; judge(&two_nodes, 20, 400), told(165, Judgement::Met));
         let mut events = OpenPlan::new(rt.alloc())?;
         let _ = events.enter(message(1, 1, Kind::Sporadic { gap: 110 }));
         let _ = events.enter(message(2, 2, Kind::Sporadic { gap: 5_000 }));
-        assert_eq!(rt; judge(&events, 2, 400), met(220));
+        assert_eq!(rt; judge(&events, 2, 400), told(220, Judgement::Met));
         Ok(())
     }
 
@@ -352,13 +345,13 @@ mod tests {
         let mut plan = empty.reopen();
         assert_eq!(rt; plan.enter(message(10, 1, timed(400, 0))), Ok(1));
         let first = settle(plan);
-        assert_eq!(rt; first.verdict(10), met(110));
+        assert_eq!(rt; first.verdict(10), told(110, Judgement::Met));
         let mut again = first.reopen();
         let mut longer = message(10, 1, timed(400, 0));
         longer.bytes = 8;
         assert_eq!(rt; again.alter(longer), Ok(1));
         let second = settle(again);
-        assert_eq!(rt; second.verdict(10), met(270));
+        assert_eq!(rt; second.verdict(10), told(270, Judgement::Met));
         assert!(rt; second.row(1).is_err());
         Ok(())
     }

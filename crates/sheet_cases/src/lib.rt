@@ -6,7 +6,7 @@ mod tests {
     use bus::frame::longest;
     use bus::refusal::Refusal;
     use bus::traffic::Traffic;
-    use engine::bound::{Outcome, bound};
+    use engine::bound::bound;
     use sheet::sender::Sender;
     use sheet::sheet::Sheet;
     use std::test::Fail;
@@ -50,7 +50,7 @@ mod tests {
             Ok(1)
         );
         assert_eq!(rt; sheet.note(sender(2, 0, APART)), Ok(2));
-        assert_eq!(rt; bound(&sheet, 1), Ok(Outcome::Bounded(220)));
+        assert_eq!(rt; bound(&sheet, 1), Ok(Some(220)));
         assert_eq!(rt; bound(&sheet, 2), Err(Refusal::Question));
         Ok(())
     }
@@ -63,7 +63,7 @@ mod tests {
             Ok(1)
         );
         assert_eq!(rt; sheet.place(0, 0, 1), Ok(-450));
-        assert_eq!(rt; bound(&sheet, 0), Ok(Outcome::Bounded(560)));
+        assert_eq!(rt; bound(&sheet, 0), Ok(Some(560)));
         Ok(())
     }
 
@@ -74,13 +74,13 @@ mod tests {
             full.note(sender(3, 0, [55, 110, 165, 220, 275, 330, 385])),
             Ok(1)
         );
-        assert_eq!(rt; bound(&full, 0), Ok(Outcome::Unsettled));
+        assert_eq!(rt; bound(&full, 0), Ok(None));
         let mut near = Sheet::new(rt.alloc())?;
         assert_eq!(rt;
             near.note(sender(3, 0, [56, 112, 168, 224, 280, 336, 392])),
             Ok(1)
         );
-        assert_eq!(rt; bound(&near, 0), Ok(Outcome::Bounded(110)));
+        assert_eq!(rt; bound(&near, 0), Ok(Some(110)));
         Ok(())
     }
 
@@ -90,7 +90,7 @@ mod tests {
         let mut burst = sender(3, 0, [900, 901, 902, 903, 904, 905, 906]);
         burst.bytes = 8;
         assert_eq!(rt; sheet.note(burst), Ok(1));
-        assert_eq!(rt; bound(&sheet, 0), Ok(Outcome::Bounded(270)));
+        assert_eq!(rt; bound(&sheet, 0), Ok(Some(270)));
         Ok(())
     }
 

@@ -4,13 +4,13 @@
 use std::io;
 use std::io::Read;
 use table::answer::answer;
-
-// A table has no more bytes than this.
-const LONGEST_TEXT: u64 = 16_384;
+use table::table::LONGEST_TEXT;
 
 fn main(rt: HostRuntime) -> io::Result<()> {
     let mut text = Vec::new(rt.alloc());
     // One byte past the longest text tells that it is too long.
-    rt.stdin().take(LONGEST_TEXT + 1).read_to_end(&mut text)?;
+    rt.stdin()
+        .take(LONGEST_TEXT as u64 + 1)
+        .read_to_end(&mut text)?;
     rt.print(answer(rt.alloc(), &text)?)
 }

@@ -1,4 +1,4 @@
-use Rattle.std.proofs.Common.{◌≡◌, List, ◌++◌, vec_items, string_bytes, sym, ap, ◌∙◌, subst, append-nil, ap₂}
+use Rattle.std.proofs.Common.{◌≡◌, List, ◌++◌, vec_items, string_bytes, sym, ap, ◌∙◌, subst, append-nil, ap₂, rules}
 use Rattle.std.specs.List.{flat_map}
 use Rattle.life.specs.declared.life.Answer.{Answer}
 use Rattle.life.specs.declared.life.Call.{Call}
@@ -20,8 +20,10 @@ returns c =
       lived = subst (λ (calls : List Call). Lived calls life) c.deref.ensures.value c.in_ok-life.ensures;
       tells = elim c.match-ending_of.branch [
         | in-Some+in_ok-writeln w ↦
-            ap string_bytes w.out-is ∙ w.in_ok-writeln.ensures.bytes ∙ ap₂ ◌++◌ answers (ap ending_text (sym w.in-Some.is ∙ c.ending_of.ensures))
+            let ending : Some w.in-Some.ending ≡ ending_of life.misplaced script.unread = search rules in
+            ap string_bytes w.out-is ∙ w.in_ok-writeln.ensures.bytes ∙ ap₂ ◌++◌ answers (ap ending_text ending)
         | in_default w ↦
-            ap string_bytes w.out-is ∙ sym (append-nil _) ∙ ap₂ ◌++◌ answers (ap ending_text (sym w.in_default.is ∙ c.ending_of.ensures))
+            let ending : None ≡ ending_of life.misplaced script.unread = search rules in
+            ap string_bytes w.out-is ∙ sym (append-nil _) ∙ ap₂ ◌++◌ answers (ap ending_text ending)
       ];
     }
