@@ -1,9 +1,9 @@
-use Rattle.std.proofs.Common.{◌≡◌, List, ◌++◌, vec_items, string_bytes, sym, ap, ◌∙◌, subst, append-nil, ap₂, rules}
+use Rattle.std.proofs.Common.{◌≡◌, List, ◌++◌, Some, None, vec_items, string_bytes, sym, ap, ◌∙◌, subst, append-nil, ap₂, rules}
 use Rattle.std.specs.List.{flat_map}
 use Rattle.life.specs.declared.life.Answer.{Answer}
 use Rattle.life.specs.declared.life.Call.{Call}
 use Rattle.life.specs.Life.{Lived}
-use Rattle.script.specs.Answers.{answer_text, ending_text}
+use Rattle.script.specs.Answers.{answer_text, ending_of, ending_text}
 use Rattle.script.proofs.answers.play.Goals as goal
 use Rattle.script.proofs.answers.play.Goals.{in-Some+in_ok-writeln, in_default}
 
