@@ -111,7 +111,7 @@ module _ (a b : ℕ) (pa : 1 ≤ a) (pb : 1 ≤ b) where
   lcm_pair = record { common = ((lcm_steps a b, refl), (steps_pass, tt)); least = λ m d. lcm_divides m d.0 d.1.0 }
 
   -- no other is the least
-  pub lcm_is : (m : ℕ) → LeastCommon (a ∷ b ∷ []) m → m ≡ lcm a b
+  lcm_is : (m : ℕ) → LeastCommon (a ∷ b ∷ []) m → m ≡ lcm a b
   lcm_is m h = divides_same m (lcm a b) (h.least (lcm a b) lcm_pair.common) (lcm_pair.least m h.common)
 
   -- by the greatest common divisor
@@ -145,6 +145,11 @@ lcm_found a zero g pa h =
     let none : 0 / g * a ≡ 0 = ap (λ x. x * a) (zero-div g) ∙ zero-mul a in
     rw none (record { common = (divides_zero a, (divides_zero 0, tt)); least = λ k d. d.1.0 })
 lcm_found a (suc b) g pa h = let some : 1 ≤ suc b = omega arith in rw (lcm_by_gcd a (suc b) pa some g h) (lcm_pair a (suc b) pa some)
+
+-- the least common multiple of any number and one from 1 on
+pub lcm_told : (a b m : ℕ) → 1 ≤ b → LeastCommon (a ∷ b ∷ []) m → m ≡ lcm a b
+lcm_told zero b m pb h = divides_same m 0 (divides_zero m) h.common.0 ∙ sym (zero-mul (lcm_steps 0 b))
+lcm_told (suc a) b m pb h = lcm_is (suc a) b (omega arith) pb m h
 
 -- ---- lists
 

@@ -1,17 +1,31 @@
 -- The records stay sound as a message is altered or struck. Assumes nothing.
-use Rattle.std.proofs.Common.{◌≡◌, ℕ, zero, suc, ◌<◌, true, false, not, ◌&&◌, ◌||◌, eqb, List, [], ◌∷◌, length, set, sym, refl, ap, ◌∙◌, le_trans, arith}
+use Rattle.std.proofs.Common.{◌≡◌, ℕ, zero, suc, ◌<◌, true, false, not, ◌&&◌, ◌||◌, eqb, List, [], ◌∷◌, length, set, is_ok, Ok, Err, Result, sym, refl, ap, ◌∙◌, le_trans, arith}
 use Rattle.std.specs.List.{remove}
 use Rattle.std.proofs.lemmas.List.Edits.{length-remove}
 use Rattle.std.proofs.lemmas.List.{length-set, set_split}
-use Rattle.std.proofs.lemmas.Bool.{and_parts, and_from, or_from, or_parts, not-true, not_from_false}
+use Rattle.std.proofs.lemmas.Bool.{and_parts, and_from, or_from, or_parts, not-true, not_from_false, both_ways}
+use Rattle.bus.specs.declared.refusal.Refusal.{Refusal}
 use Rattle.plan.specs.declared.record.Record.{Record}
+use Rattle.plan.specs.declared.schedule.Schedule.{Schedule}
 use Rattle.plan.specs.Record.{within}
 use Rattle.plan.specs.Cycle.{all_within}
 use Rattle.plan.specs.Held.{record_at, Stands}
 use Rattle.plan.specs.Open.{holds, apart, too_long, altered, struck}
+use Rattle.plan.specs.Schedule.{Works, WorksOut}
 use Rattle.plan.specs.Kept.{Sound, short_at, short_nowhere}
 use Rattle.plan.proofs.Places.{giving_way_at}
 use Rattle.plan.proofs.Walked.{cycle_without}
+
+-- ---- a schedule worked out
+
+module _ (rs : List Record) (old new : Schedule) where
+  pub works : (done : Result (Unit {0}) Refusal) → WorksOut rs old done new → too_long rs ≡ false → Works rs new
+  works (Ok done) out short = out.1
+  works (Err e) out short = absurd (both_ways (too_long rs) short out.0)
+
+  pub works_ok : (done : Result (Unit {0}) Refusal) → WorksOut rs old done new → too_long rs ≡ false → is_ok done ≡ true
+  works_ok (Ok done) out short = refl
+  works_ok (Err e) out short = absurd (both_ways (too_long rs) short out.0)
 
 -- ---- another record in a place
 

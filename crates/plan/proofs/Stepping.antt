@@ -16,7 +16,7 @@ use Rattle.plan.proofs.Walked.{all_parts}
 abbrev Allowed : Rules → Type 0
 Allowed rules = AllByRecursion (λ rule. rule.0 ≡ false) rules
 
-told : (rules : Rules) (n m : ℕ) → Ok n ≡ answer rules m → n ≡ m
+pub told : (rules : Rules) (n m : ℕ) → Ok n ≡ answer rules m → n ≡ m
 told rules n m h = let passed = answer_passed rules m m (sym (ap is_ok h)) in cc
 
 -- a call that comes while the book is open, and makes `new` of its records

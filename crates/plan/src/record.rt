@@ -1,7 +1,7 @@
 // What is declared of a message, and the limits of each number.
-ghost use Rattle.std.specs.Prelude.{◌≡◌};
+ghost use Rattle.std.specs.Prelude.{◌≡◌, true, Err, MatchResult};
 ghost use Rattle.bus.specs.Refused.{answer};
-ghost use Rattle.plan.specs.Record.{interval, intervals, offset_below, limits};
+ghost use Rattle.plan.specs.Record.{interval, intervals, offset_below, limits, within};
 
 use bus::refusal::Refusal;
 
@@ -35,6 +35,13 @@ pub struct Record {
     pub due: u64,
 }
 
+// A record whose numbers are within their limits.
+#[derive(Clone, Copy, PartialEq, Eq, Debug)]
+pub struct Message {
+    pub record: Record,
+    ghost within: { within «record» ≡ true },
+}
+
 fn is_interval(n: u64) -> bool
     ensures { result ≡ interval n }
 {
@@ -64,9 +71,9 @@ impl Kind {
 }
 
 impl Record {
-    // Whether each number is within its limits.
-    pub(crate) fn check(self) -> Result<(), Refusal>
-        ensures { result ≡ answer (limits self) (tt {0}) }
+    // The message of the record, if each number is within its limits.
+    pub fn check(self) -> Result<Message, Refusal>
+        ensures { MatchResult result (λ m. m.record ≡ self) (λ e. answer (limits self) (tt {0}) ≡ Err e) }
     {
         if self.identifier > LARGEST_IDENTIFIER {
             return Err(Refusal::Identifier);
@@ -89,6 +96,20 @@ impl Record {
         if self.due == 0 || self.due > LATEST_DUE {
             return Err(Refusal::Due);
         }
-        Ok(())
+        Ok(Message { record: self })
+    }
+}
+
+impl Message {
+    pub(crate) fn node(&self) -> u32
+        ensures { result ≡ self.now.record.node }
+    {
+        self.record.node as u32
+    }
+
+    pub(crate) fn jitter(&self) -> u32
+        ensures { result ≡ self.now.record.jitter }
+    {
+        self.record.jitter as u32
     }
 }
