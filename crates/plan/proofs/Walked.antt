@@ -39,9 +39,6 @@ periods_removed n (r ∷ rs) (suc k) P h =
     All-append P (periods_at n r) (periods n (remove rs k)) both.0 (periods_removed n rs k P both.1)
 
 module _ (rs : List Record) (all : all_within rs ≡ true) (n k : ℕ) where
-  pub cycle_before_some : 1 ≤ cycle_of n (take k rs)
-  cycle_before_some = lcm_of_some (periods n (take k rs)) (periods_take n rs k (λ t. 1 ≤ t) (periods_some n rs all))
-
   pub cycle_before : cycle_of n (take k rs) ≤ cycle_of n rs
   cycle_before = fewer_multiples (periods n (take k rs)) (periods n rs) (periods_some n rs all) (periods_take n rs k)
 

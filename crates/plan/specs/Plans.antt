@@ -10,18 +10,15 @@ use Rattle.plan.specs.Cycle.{cycle_of, periods_in}
 use Rattle.plan.specs.Held.{held}
 use Rattle.plan.specs.Limited.{fits}
 use Rattle.plan.specs.Messages.{records_within}
-use Rattle.plan.specs.Kept.{Sound, Kept, cycle_here}
+use Rattle.plan.specs.Kept.{Sound, cycle_here}
 
 pub sound : (p : OpenPlan) → Sound (held p)
 sound p = record { few = omega (arith, length-map p.messages.items (λ m. m.record), p.few); within = records_within p.messages.items; distinct = p.distinct; short = p.short }
 
-pub kept : (p : OpenPlan) → Kept (held p) p.schedule.streams.items p.schedule.cycles p.schedule.reach
-kept p = record { sound = sound p; carried = p.carried; cycled = p.cycled; reached = p.reached }
-
 module _ (p : OpenPlan) (r : Record) (good : within r ≡ true) where
   -- the cycle that is kept for the message's node
   node_cycle : slice_index_or p.schedule.cycles r.node 0 ≡ cycle_of r.node (held p)
-  node_cycle = p.cycled r.node (let n = (fits r good).node in omega arith)
+  node_cycle = p.works.cycled r.node (let n = (fits r good).node in omega arith)
 
   -- and the one with the message's period
   pub node_cycle_with : fold lcm (slice_index p.schedule.cycles r.node) (periods_in r.kind) ≡ cycle_of r.node (held p ++ r ∷ [])

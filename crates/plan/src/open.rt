@@ -1,9 +1,9 @@
 // A plan that is open: messages can be entered, altered and struck.
-ghost use Rattle.std.specs.Prelude.{◌≡◌, ℕ, ◌<◌, ◌≤◌, true, false, length, vec_capacity, slice_index};
-ghost use Rattle.plan.specs.Cycle.{cycle_of};
+ghost use Rattle.std.specs.Prelude.{◌≡◌, ◌≤◌, true, false, length, vec_capacity};
+ghost use Rattle.std.proofs.Props.{props};
 ghost use Rattle.plan.specs.Messages.{records_of};
 ghost use Rattle.plan.specs.Open.{apart, too_long};
-ghost use Rattle.plan.specs.Streams.{streams_of, reach_of};
+ghost use Rattle.plan.specs.Schedule.{Works};
 
 use crate::record::Message;
 use crate::schedule::Schedule;
@@ -20,7 +20,5 @@ pub struct OpenPlan {
     ghost distinct: { apart (records_of messages.items) ≡ true },
     ghost short: { too_long (records_of messages.items) ≡ false },
     ghost room: { 64 ≤ vec_capacity messages },
-    ghost carried: { schedule.streams.items ≡ streams_of (records_of messages.items) },
-    ghost cycled: { (n : ℕ) → n < 16 → slice_index schedule.cycles n ≡ cycle_of n (records_of messages.items) },
-    ghost reached: { schedule.reach ≡ reach_of (records_of messages.items) },
+    ghost works: { Works (records_of messages.items) schedule } by { Prim.hlevel props },
 }

@@ -41,17 +41,15 @@ pub(crate) fn push_streams(streams: &mut Vec<Stream>, message: &Message)
     ensures items { streams.new.items ≡ streams.old.items ++ parts message.now.record message.now.record.kind }
     ensures capacity { vec_capacity streams.new ≡ vec_capacity streams.old }
 {
-    if let Kind::Periodic { period, offset } | Kind::Mixed { period, offset, .. } = message
-        .record
-        .kind
-    {
+    let kind = message.record.kind;
+    if let Kind::Periodic { period, offset } | Kind::Mixed { period, offset, .. } = kind {
         let timed = Timing::Timed {
             period: period as u32,
             offset: offset as u32,
         };
         streams.push_reserved(message.stream(timed));
     }
-    if let Kind::Sporadic { gap } | Kind::Mixed { gap, .. } = message.record.kind {
+    if let Kind::Sporadic { gap } | Kind::Mixed { gap, .. } = kind {
         let event = Timing::Event { gap: gap as u32 };
         streams.push_reserved(message.stream(event));
     }

@@ -1,5 +1,4 @@
 use Rattle.std.proofs.Common.{◌≡◌, true, length, set, Ok, Err, sym, refl, ap, ◌∙◌, subst, arith}
-use Rattle.std.specs.List.{slice_index}
 use Rattle.std.specs.Option.{ok_or}
 use Rattle.std.proofs.lemmas.List.{map-set, length-set, set-set, set-get_or}
 use Rattle.std.proofs.lemmas.Result.{err_from_is_err_and}
@@ -7,15 +6,11 @@ use Rattle.bus.specs.declared.refusal.Refusal.TheVariants.{NotHeld, Cycle}
 use Rattle.plan.specs.declared.record.Message.{Message}
 use Rattle.plan.specs.declared.record.Record.{Record}
 use Rattle.plan.specs.Record.{within}
-use Rattle.plan.specs.Cycle.{cycle_of}
 use Rattle.plan.specs.Held.{held, PositionAsked, Stands}
 use Rattle.plan.specs.Messages.{records_of}
 use Rattle.plan.specs.Open.{holds, apart, too_long, altered, alter_rules}
 use Rattle.plan.specs.Schedule.{Works}
-use Rattle.plan.specs.Streams.{streams_of, reach_of}
-use Rattle.plan.specs.Kept.{Sound}
-use Rattle.plan.specs.Plans.{sound}
-use Rattle.plan.proofs.Changed.{altered_is, altered_sound}
+use Rattle.plan.proofs.Changed.{altered_is, altered_apart}
 use Rattle.plan.proofs.Judged.{alter_refused_limits, alter_refused_held, alter_refused_cycle, alter_accepted, done_refused, done_made}
 use Rattle.plan.proofs.Places.{holds_told}
 use Rattle.plan.proofs.Stepping.{alter_steps}
@@ -76,9 +71,7 @@ invariant_of-self c =
       distinct = ap (λ ms. apart (records_of ms)) back ∙ p.distinct;
       short = ap (λ ms. too_long (records_of ms)) back ∙ p.short;
       room = p.room;
-      carried = ap (λ s. s.streams.items) same ∙ p.carried ∙ ap (λ ms. streams_of (records_of ms)) (sym back);
-      cycled = λ n h. ap (λ s. slice_index s.cycles n) same ∙ p.cycled n h ∙ ap (λ ms. cycle_of n (records_of ms)) (sym back);
-      reached = ap (λ s. s.reach) same ∙ p.reached ∙ ap (λ ms. reach_of (records_of ms)) (sym back);
+      works = subst (λ ms. Works (records_of ms) c.work_out.new.self) (sym back) (subst (Works (held p)) (sym same) p.works);
     }
 
 pub returns-in-Err : goal.returns-in-Err
@@ -98,16 +91,12 @@ invariant_of-self-in_default c =
     let at = c.in_ok-at.at in
     let h = (goal.at.invariant_of-self-in_default c).After-work_out in
     let short = sym (ap too_long (ap records_of c.deref.ensures.value ∙ stand h)) ∙ c.in_default.ensures.0 in
-    let s = subst Sound (sym (stand h)) (altered_sound rs at c.args.message (stands h) (sound p) (good h) short) in
-    let w = subst (λ ms. Works (records_of ms) c.work_out.new.self) c.deref.ensures.value c.in_default.ensures.1 in
     record {
       few = omega (arith, length-set p.messages.items at c.in_ok-checked.checked, p.few);
-      distinct = s.distinct;
-      short = s.short;
+      distinct = ap apart (stand h) ∙ altered_apart rs at c.args.message (stands h) p.distinct;
+      short = ap too_long (stand h) ∙ short;
       room = p.room;
-      carried = w.carried;
-      cycled = w.cycled;
-      reached = w.reached;
+      works = subst (λ ms. Works (records_of ms) c.work_out.new.self) c.deref.ensures.value c.in_default.ensures.1;
     }
 
 pub returns : goal.returns

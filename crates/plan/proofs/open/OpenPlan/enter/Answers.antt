@@ -1,6 +1,5 @@
 use Rattle.std.proofs.Common.{◌≡◌, [], ◌∷◌, ◌++◌, length, is_ok, Ok, Err, sym, refl, ap, ◌∙◌, subst, arith, rules}
-use Rattle.std.specs.List.{slice_index, slice_set}
-use Rattle.std.proofs.lemmas.List.{length-map, map_push}
+use Rattle.std.proofs.lemmas.List.{length-map, length_push, map_push}
 use Rattle.std.proofs.lemmas.Result.{err_from_is_err_and}
 use Rattle.bus.specs.Refused.{answer}
 use Rattle.bus.proofs.Refusing.{answer_passed, answer_refused}
@@ -10,9 +9,9 @@ use Rattle.plan.specs.Cycle.{cycle_of}
 use Rattle.plan.specs.Held.{held}
 use Rattle.plan.specs.Messages.{records_of}
 use Rattle.plan.specs.Open.{apart, too_long, enter_rules}
-use Rattle.plan.specs.Streams.{streams_of, reach_of}
-use Rattle.plan.specs.Kept.{entered_kept, streams_few, least_cycles}
-use Rattle.plan.specs.Plans.{kept}
+use Rattle.plan.specs.Schedule.{Works}
+use Rattle.plan.specs.Kept.{streams_few, least_cycles}
+use Rattle.plan.proofs.Changed.{apart_push, entered_works}
 use Rattle.plan.proofs.Judged.{Accepted, accepted_by, refused_limits, done_refused, done_made}
 use Rattle.plan.proofs.Stepping.{told, enter_steps}
 use Rattle.plan.proofs.open.OpenPlan.enter.Goals as goal
@@ -52,7 +51,7 @@ pub add-requires : goal.add-requires
 add-requires c =
     let p = c.args.self.now in
     let a = taken (goal.at.add-requires c).In_ok-cycle in
-    omega (arith, a.room, streams_few (held p), ap length p.carried, p.schedule.streams.ok.0)
+    omega (arith, a.room, streams_few (held p), ap length p.works.carried, p.schedule.streams.ok.0)
 
 pub invariant_of-self : goal.invariant_of-self
 invariant_of-self c =
@@ -63,16 +62,13 @@ invariant_of-self c =
     let a = taken (goal.at.invariant_of-self c).In_ok-cycle in
     let is = told (enter_rules r rs) c.in_ok-cycle.cycle v c.in_ok-cycle.ensures in
     let all : length p.schedule.cycles ≡ 16 = search rules in
-    let k = entered_kept rs p.schedule.streams.items p.schedule.cycles p.schedule.reach r (kept p) a.good a.free a.room a.short all in
     let new = ap records_of c.push_reserved.ensures.items ∙ map_push (λ (m : Message). m.record) p.messages.items c.in_ok-checked.checked in
     record {
-      few = omega (arith, k.sound.few, ap length new, length-map c.push_reserved.new.self.items (λ m. m.record));
-      distinct = ap apart new ∙ k.sound.distinct;
-      short = ap too_long new ∙ k.sound.short;
+      few = omega (arith, ap length c.push_reserved.ensures.items, length_push p.messages.items c.in_ok-checked.checked, length-map p.messages.items (λ m. m.record), a.room);
+      distinct = ap apart new ∙ apart_push rs r p.distinct a.free;
+      short = ap too_long new ∙ a.short;
       room = omega (arith, c.push_reserved.ensures.capacity, p.room);
-      carried = c.add.ensures.streams ∙ k.carried ∙ ap streams_of (sym new);
-      cycled = λ n h. ap (λ cs. slice_index cs n) (c.add.ensures.cycles ∙ ap (slice_set p.schedule.cycles r.node) is) ∙ k.cycled n h ∙ ap (cycle_of n) (sym new);
-      reached = c.add.ensures.reach ∙ k.reached ∙ ap reach_of (sym new);
+      works = subst (λ xs. Works xs c.add.new.self) (sym new) (entered_works rs r p.schedule c.add.new.self c.in_ok-cycle.cycle p.works all is c.add.ensures.streams c.add.ensures.cycles c.add.ensures.reach);
     }
 
 pub returns : goal.returns

@@ -7,11 +7,10 @@ use Rattle.std.proofs.lemmas.Result.{err_from_is_err_and}
 use Rattle.bus.specs.declared.refusal.Refusal.TheVariants.{NotHeld}
 use Rattle.plan.specs.Held.{held, PositionAsked, Stands}
 use Rattle.plan.specs.Messages.{records_of}
-use Rattle.plan.specs.Open.{too_long, struck, strike_rules}
+use Rattle.plan.specs.Open.{apart, too_long, struck, strike_rules}
 use Rattle.plan.specs.Schedule.{Works}
-use Rattle.plan.specs.Kept.{Sound}
 use Rattle.plan.specs.Plans.{sound}
-use Rattle.plan.proofs.Changed.{works, struck_is, struck_sound}
+use Rattle.plan.proofs.Changed.{works, struck_is, apart_removed, short_removed}
 use Rattle.plan.proofs.Judged.{strike_refused, strike_accepted, done_refused, done_made}
 use Rattle.plan.proofs.Places.{holds_told}
 use Rattle.plan.proofs.Recorded.{recorded_remove}
@@ -26,11 +25,8 @@ stands c = subst (PositionAsked c.args.identifier (held c.args.self.now)) c.in_o
 left : (c : After-work_out) → records_of c.remove.new.self.items ≡ remove (held c.args.self.now) c.in_ok-at.at
 left c = ap records_of c.remove.ensures.items ∙ recorded_remove c.args.self.now.messages.items c.in_ok-at.at
 
-left_sound : (c : After-work_out) → Sound (records_of c.remove.new.self.items)
-left_sound c = subst Sound (sym (left c)) (struck_sound c.args.identifier (held c.args.self.now) c.in_ok-at.at (stands c) (sound c.args.self.now))
-
-left_short : (c : After-work_out) → too_long (records_of c.deref.result.now) ≡ false
-left_short c = ap (λ ms. too_long (records_of ms)) c.deref.ensures.value ∙ (left_sound c).short
+left_short : (c : After-work_out) → too_long (remove (held c.args.self.now) c.in_ok-at.at) ≡ false
+left_short c = short_removed (held c.args.self.now) c.in_ok-at.at (sound c.args.self.now)
 
 pub returns-in_err-at : goal.returns-in_err-at
 returns-in_err-at c =
@@ -44,16 +40,13 @@ returns-in_err-at c =
 pub invariant_of-self : goal.invariant_of-self
 invariant_of-self c =
     let p = c.args.self.now in
-    let s = left_sound c in
-    let w = subst (λ ms. Works (records_of ms) c.work_out.new.self) c.deref.ensures.value (works (records_of c.deref.result.now) p.schedule c.work_out.new.self c.work_out.result c.work_out.ensures (left_short c)) in
+    let short = ap (λ ms. too_long (records_of ms)) c.deref.ensures.value ∙ ap too_long (left c) ∙ left_short c in
     record {
-      few = omega (arith, s.few, length-map c.remove.new.self.items (λ m. m.record));
-      distinct = s.distinct;
-      short = s.short;
+      few = omega (arith, ap length c.remove.ensures.items, length-remove p.messages.items c.in_ok-at.at (omega (arith, (stands c).inside, length-map p.messages.items (λ m. m.record))), p.few);
+      distinct = ap apart (left c) ∙ apart_removed (held p) c.in_ok-at.at p.distinct;
+      short = ap too_long (left c) ∙ left_short c;
       room = omega (arith, c.remove.ensures.capacity, p.room);
-      carried = w.carried;
-      cycled = w.cycled;
-      reached = w.reached;
+      works = subst (λ ms. Works (records_of ms) c.work_out.new.self) c.deref.ensures.value (works (records_of c.deref.result.now) p.schedule c.work_out.new.self c.work_out.result c.work_out.ensures short);
     }
 
 pub returns : goal.returns

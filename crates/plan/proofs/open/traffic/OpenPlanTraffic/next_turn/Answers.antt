@@ -12,4 +12,4 @@ pub soonest_turn-requires : goal.soonest_turn-requires
 soonest_turn-requires c =
     let rs = held c.args.self.now in
     let all = All-weaker (Known rs) (λ s. Paced s.timing) (λ s k. k.paced) (streams_of rs) (all_known rs (sound c.args.self.now)) in
-    record { paced = subst (AllByRecursion (λ s. Paced s.timing)) (sym (c.deref.ensures.value ∙ c.args.self.now.carried)) all; before = omega (arith, c.if-phase-cycle.false) }
+    record { paced = subst (AllByRecursion (λ s. Paced s.timing)) (sym (c.deref.ensures.value ∙ c.args.self.now.works.carried)) all; before = omega (arith, c.if-phase-cycle.false) }

@@ -6,4 +6,4 @@ use Rattle.plan.proofs.open.traffic.OpenPlanTraffic.streams.Goals as goal
 
 pub overflow_cast-result : goal.overflow_cast-result
 overflow_cast-result c =
-    omega (arith, c.args.self.now.schedule.streams.ok.0, ap length c.args.self.now.carried, streams_few (held c.args.self.now), (sound c.args.self.now).few)
+    omega (arith, c.args.self.now.schedule.streams.ok.0, ap length c.args.self.now.works.carried, streams_few (held c.args.self.now), (sound c.args.self.now).few)
