@@ -137,9 +137,6 @@ module _ (a b : ℕ) (pa : 1 ≤ a) (pb : 1 ≤ b) where
 
 -- ---- what the code finds
 
-pub gcd_some : (a b g : ℕ) → 1 ≤ a → GreatestCommon a b g → 1 ≤ g
-gcd_some a b g pa h = divides_some g a pa h.left
-
 pub lcm_found : (a b g : ℕ) → 1 ≤ a → GreatestCommon a b g → LeastCommon (a ∷ b ∷ []) (b / g * a)
 lcm_found a zero g pa h =
     let none : 0 / g * a ≡ 0 = ap (λ x. x * a) (zero-div g) ∙ zero-mul a in

@@ -1,7 +1,8 @@
 -- The records stay sound, and their schedule in step, as a message is entered, altered or struck. Assumes nothing.
-use Rattle.std.proofs.Common.{◌≡◌, ℕ, zero, suc, ◌<◌, max, true, false, not, ◌&&◌, ◌||◌, ◌==◌, ◌≢◌, eqb, List, [], ◌∷◌, ◌++◌, length, set, is_ok, Ok, Err, Result, sym, refl, ap, ◌∙◌, le_trans, subst, inl, inr, arith}
+use Rattle.std.proofs.Common.{◌≡◌, ℕ, zero, suc, ◌<◌, max, true, false, not, ◌&&◌, ◌||◌, ◌==◌, ◌≢◌, eqb, List, [], ◌∷◌, ◌++◌, length, set, Ok, Err, Result, sym, refl, ap, ◌∙◌, le_trans, subst, inl, inr, arith}
 use Rattle.std.specs.List.{remove, slice_index, slice_set}
 use Rattle.std.proofs.lemmas.List.{set_split, get_or-set_same, get_or-set_other, flat_map_more}
+use Rattle.std.proofs.lemmas.List.Recursion.{or_push}
 use Rattle.std.proofs.lemmas.List.Sums.{fold_push}
 use Rattle.std.proofs.lemmas.Bool.{and_parts, and_from, or_from, or_parts, not-true, not_from_false, both_ways, eqb-false, ne_eqb, cases_eq}
 use Rattle.bus.specs.declared.refusal.Refusal.{Refusal}
@@ -23,17 +24,10 @@ module _ (rs : List Record) (old new : Schedule) where
   works (Ok done) out short = out.1
   works (Err e) out short = absurd (both_ways (too_long rs) short out.0)
 
-  pub works_ok : (done : Result (Unit {0}) Refusal) → WorksOut rs old done new → too_long rs ≡ false → is_ok done ≡ true
-  works_ok (Ok done) out short = refl
-  works_ok (Err e) out short = absurd (both_ways (too_long rs) short out.0)
-
 -- ---- one message more
 
 holds_push : (identifier : ℕ) (rs : List Record) (r : Record) → holds identifier rs ≡ false → (r.identifier ≢ identifier) → holds identifier (rs ++ r ∷ []) ≡ false
-holds_push identifier [] r h other = or_from (r.identifier == identifier) false (ne_eqb r.identifier identifier other) refl
-holds_push identifier (x ∷ rs) r h other =
-    let both = or_parts (x.identifier == identifier) (holds identifier rs) h in
-    or_from (x.identifier == identifier) (holds identifier (rs ++ r ∷ [])) both.0 (holds_push identifier rs r both.1 other)
+holds_push identifier rs r none other = or_push (holds identifier) (λ x. x.identifier == identifier) refl (λ _ _. refl) rs r ∙ or_from _ _ none (ne_eqb r.identifier identifier other)
 
 pub apart_push : (rs : List Record) (r : Record) → apart rs ≡ true → holds r.identifier rs ≡ false → apart (rs ++ r ∷ []) ≡ true
 apart_push [] r h free = refl

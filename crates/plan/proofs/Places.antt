@@ -2,10 +2,11 @@
 use Rattle.std.proofs.Common.{◌≡◌, ℕ, zero, suc, ◌<◌, ◌≤◌, true, false, eqb, List, [], ◌∷◌, ◌++◌, length, take, drop, is_some, Some, None, Option, MatchOption, sym, refl, ap, ◌∙◌, subst, arith}
 use Rattle.std.specs.List.{AllWithin, HoldsAt}
 use Rattle.std.proofs.lemmas.List.{length-map, take_all}
-use Rattle.std.proofs.lemmas.Bool.{or_left, or_right, or_from, or_parts, eq-eqb, ne_eqb, cond-true, cond-false}
+use Rattle.std.proofs.lemmas.List.Recursion.{or_at}
+use Rattle.std.proofs.lemmas.Bool.{or_from, or_parts, eq-eqb, ne_eqb, cond-true, cond-false}
 use Rattle.plan.specs.declared.record.Message.{Message}
 use Rattle.plan.specs.declared.record.Record.{Record}
-use Rattle.plan.specs.Held.{record_at, PositionAsked}
+use Rattle.plan.specs.Held.{no_record, record_at, PositionAsked}
 use Rattle.plan.specs.Messages.{records_of}
 use Rattle.plan.specs.Open.{holds, giving_way}
 use Rattle.plan.proofs.Recorded.{a_message, record_read}
@@ -37,10 +38,8 @@ module _ (identifier : ℕ) (ms : List Message) where
     first = all_other k (omega (arith, found.0)) found.2;
   }
 
-pub held_at : (identifier : ℕ) (rs : List Record) (k : ℕ) → k < length rs → (record_at rs k).identifier ≡ identifier → holds identifier rs ≡ true
-held_at identifier [] k inside named = absurd (omega arith)
-held_at identifier (r ∷ rs) zero inside named = or_left _ _ (eq-eqb _ _ named)
-held_at identifier (r ∷ rs) (suc k) inside named = or_right _ _ (held_at identifier rs k (omega arith) named)
+held_at : (identifier : ℕ) (rs : List Record) (k : ℕ) → k < length rs → (record_at rs k).identifier ≡ identifier → holds identifier rs ≡ true
+held_at identifier rs k inside named = or_at (holds identifier) (λ r. eqb r.identifier identifier) refl (λ _ _. refl) rs k no_record inside (eq-eqb _ _ named)
 
 pub holds_told : (identifier : ℕ) (rs : List Record) (told : Option ℕ) → PositionAsked identifier rs told → holds identifier rs ≡ is_some told
 holds_told identifier rs (Some k) at = held_at identifier rs k at.inside at.named

@@ -1,7 +1,7 @@
 -- What is done to messages is done to their records. Assumes nothing.
-use Rattle.std.proofs.Common.{◌≡◌, ℕ, zero, suc, ◌<◌, List, [], ◌∷◌, length, get_or, sym, refl, ap, ◌∙◌}
+use Rattle.std.proofs.Common.{◌≡◌, ℕ, ◌<◌, List, length, get_or, sym, refl, ap, ◌∙◌}
 use Rattle.std.specs.List.{remove}
-use Rattle.std.proofs.lemmas.List.{get_or-map}
+use Rattle.std.proofs.lemmas.List.{get_or-map, map-append, take-map, drop-map}
 use Rattle.plan.specs.declared.record.Kind.TheVariants.{Periodic}
 use Rattle.plan.specs.declared.record.Message.{Message}
 use Rattle.plan.specs.Held.{no_record, record_at}
@@ -18,7 +18,4 @@ pub recorded_at : (ms : List Message) (k : ℕ) (m : Message) → k < length ms 
 recorded_at ms k m inside is = ap (λ x. x.record) is ∙ sym (get_or-map (λ x. x.record) ms k m no_record inside)
 
 pub recorded_remove : (ms : List Message) (k : ℕ) → records_of (remove ms k) ≡ remove (records_of ms) k
-recorded_remove [] zero = refl
-recorded_remove [] (suc k) = refl
-recorded_remove (m ∷ ms) zero = refl
-recorded_remove (m ∷ ms) (suc k) = ap (λ rs. m.record ∷ rs) (recorded_remove ms k)
+recorded_remove ms k = simp (map-append, take-map, drop-map)

@@ -1,21 +1,24 @@
 -- What an open plan keeps true of its records, and what follows from it. Assumes nothing.
-use Rattle.std.specs.Prelude.{◌≡◌, ℕ, zero, suc, ◌*◌, ◌<◌, ◌≤◌, Bool, true, false, cond, List, [], ◌∷◌, ◌++◌, length, fold, ◌==◌, ◌≢◌, refl}
+use Rattle.std.specs.Prelude.{◌≡◌, ℕ, ◌*◌, ◌<◌, ◌≤◌, Bool, true, false, cond, List, [], ◌∷◌, ◌++◌, length, fold, ◌==◌, ◌≢◌, refl}
 use Rattle.std.proofs.Common.{sym, ap, subst, ◌∙◌, inl, inr, le_trans, lt_of_lt_of_le, arith}
 use Rattle.std.specs.List.{AllByRecursion}
 use Rattle.std.proofs.lemmas.List.{length-append, flat_map_more}
 use Rattle.std.proofs.ByRecursion.{All-append}
-use Rattle.std.proofs.lemmas.Bool.{and_parts, cond-true, cond-false, eq-eqb, ne_eqb, cases_eq, le-ltb, lt-ltb, ltb-false}
+use Rattle.std.proofs.lemmas.Bool.{and_from, and_parts, cond-true, cond-false, eq-eqb, ne_eqb, cases_eq, le-ltb, lt-ltb, ltb-false}
+use Rattle.std.proofs.lemmas.List.Recursion.{and_at}
 use Rattle.bus.specs.Sums.{largest_below}
 use Rattle.bus.proofs.Adding.{largest_has, largest_at_most}
 use Rattle.clock.specs.Multiple.{lcm, lcm_of}
 use Rattle.clock.proofs.Multiples.{lcm_of_some, least_multiples}
 use Rattle.plan.specs.declared.record.Kind.{Kind}
 use Rattle.plan.specs.declared.record.Kind.TheVariants.{Periodic, Sporadic, Mixed}
+use Rattle.plan.specs.declared.record.Message.{Message}
 use Rattle.plan.specs.declared.record.Record.{Record}
 use Rattle.plan.specs.Record.{within, interval, intervals}
 use Rattle.plan.specs.Cycle.{all_within, periods_in, periods_at, periods, cycle_of, LeastCycles}
+use Rattle.plan.specs.Messages.{records_of}
 use Rattle.plan.specs.Open.{apart, too_long}
-use Rattle.plan.specs.Held.{record_at}
+use Rattle.plan.specs.Held.{no_record, record_at}
 use Rattle.plan.specs.Streams.{parts, streams_of}
 use Rattle.plan.specs.Limited.{interval_some, fits}
 
@@ -27,9 +30,12 @@ pub record Sound (records : List Record) : Type 0 where
   pub short : too_long records ≡ false
 
 pub within_at : (records : List Record) → all_within records ≡ true → (k : ℕ) → k < length records → within (record_at records k) ≡ true
-within_at [] all k l = absurd (omega arith)
-within_at (r ∷ records) all zero l = (and_parts (within r) (all_within records) all).0
-within_at (r ∷ records) all (suc k) l = within_at records (and_parts (within r) (all_within records) all).1 k (omega arith)
+within_at records all k inside = and_at all_within within refl (λ _ _. refl) records k no_record inside all
+
+-- the records of messages are
+pub records_within : (ms : List Message) → all_within (records_of ms) ≡ true
+records_within [] = refl
+records_within (m ∷ ms) = and_from (within m.record) (all_within (records_of ms)) m.within (records_within ms)
 
 -- ---- cycles
 

@@ -1,7 +1,6 @@
 -- What an open plan keeps. Assumes nothing.
 use Rattle.std.specs.Prelude.{◌≡◌, true, [], ◌∷◌, ◌++◌, fold, slice_index, slice_index_or}
 use Rattle.std.proofs.Common.{sym, ap, ◌∙◌, arith}
-use Rattle.std.proofs.lemmas.List.{length-map}
 use Rattle.clock.specs.Multiple.{lcm}
 use Rattle.plan.specs.declared.open.OpenPlan.{OpenPlan}
 use Rattle.plan.specs.declared.record.Record.{Record}
@@ -9,11 +8,10 @@ use Rattle.plan.specs.Record.{within}
 use Rattle.plan.specs.Cycle.{cycle_of, periods_in}
 use Rattle.plan.specs.Held.{held}
 use Rattle.plan.specs.Limited.{fits}
-use Rattle.plan.specs.Messages.{records_within}
-use Rattle.plan.specs.Kept.{Sound, cycle_here}
+use Rattle.plan.specs.Kept.{Sound, records_within, cycle_here}
 
 pub sound : (p : OpenPlan) → Sound (held p)
-sound p = record { few = omega (arith, length-map p.messages.items (λ m. m.record), p.few); within = records_within p.messages.items; distinct = p.distinct; short = p.short }
+sound p = record { few = p.few; within = records_within p.messages.items; distinct = p.distinct; short = p.short }
 
 module _ (p : OpenPlan) (r : Record) (good : within r ≡ true) where
   -- the cycle that is kept for the message's node

@@ -16,7 +16,7 @@ pub mod traffic;
 pub struct OpenPlan {
     messages: Vec<Message>,
     schedule: Schedule,
-    ghost few: { length messages.items ≤ 64 },
+    ghost few: { length (records_of messages.items) ≤ 64 },
     ghost distinct: { apart (records_of messages.items) ≡ true },
     ghost short: { too_long (records_of messages.items) ≡ false },
     ghost room: { 64 ≤ vec_capacity messages },

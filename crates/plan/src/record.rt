@@ -39,13 +39,13 @@ pub struct Record {
 #[derive(Clone, Copy, PartialEq, Eq, Debug)]
 pub struct Message {
     pub record: Record,
-    ghost within: { within «record» ≡ true },
+    pub ghost within: { within «record» ≡ true },
 }
 
 fn is_interval(n: u64) -> bool
     ensures { result ≡ interval n }
 {
-    0 < n && n <= LONGEST_INTERVAL
+    (1..=LONGEST_INTERVAL).contains(&n)
 }
 
 impl Kind {
@@ -53,8 +53,7 @@ impl Kind {
         ensures { result ≡ intervals self }
     {
         match self {
-            Kind::Periodic { period, .. } => is_interval(period),
-            Kind::Sporadic { gap } => is_interval(gap),
+            Kind::Periodic { period: n, .. } | Kind::Sporadic { gap: n } => is_interval(n),
             Kind::Mixed { period, gap, .. } => is_interval(period) && is_interval(gap),
         }
     }
@@ -63,8 +62,9 @@ impl Kind {
         ensures { result ≡ offset_below self }
     {
         match self {
-            Kind::Periodic { period, offset } | Kind::Mixed { period, offset, .. } => offset
-                < period,
+            Kind::Periodic { period, offset } | Kind::Mixed { period, offset, .. } => {
+                offset < period
+            }
             Kind::Sporadic { .. } => true,
         }
     }
@@ -93,7 +93,7 @@ impl Record {
         if self.jitter > LARGEST_JITTER {
             return Err(Refusal::Jitter);
         }
-        if self.due == 0 || self.due > LATEST_DUE {
+        if !(1..=LATEST_DUE).contains(&self.due) {
             return Err(Refusal::Due);
         }
         Ok(Message { record: self })

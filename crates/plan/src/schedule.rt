@@ -49,7 +49,7 @@ impl Schedule {
 
     // Works it all out from the messages, unless a cycle is too long.
     pub(crate) fn work_out(&mut self, messages: &[Message]) -> Result<(), Refusal>
-        requires { length messages.now ≤ 64 }
+        requires { length (records_of messages.now) ≤ 64 }
         ensures { WorksOut (records_of messages.now) self.old result self.new }
     {
         self.cycles = cycles_of(messages).ok_or(Refusal::Cycle)?;

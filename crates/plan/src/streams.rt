@@ -10,6 +10,7 @@ use bus::frame;
 use bus::refusal::Refusal;
 use clock::timing::Timing;
 
+// That its timing is paced stands in the contracts below: a fact of the type would ask it of every stream that a definition builds.
 #[derive(Clone, Copy, PartialEq, Eq, Debug)]
 pub struct Stream {
     pub node: u32,
@@ -57,7 +58,7 @@ pub(crate) fn push_streams(streams: &mut Vec<Stream>, message: &Message)
 
 // Lists the streams of the messages, in place of those that stood there.
 pub(crate) fn list_streams(streams: &mut Vec<Stream>, messages: &[Message])
-    requires { 2 * length messages.now ≤ vec_capacity streams.old }
+    requires { 2 * length (records_of messages.now) ≤ vec_capacity streams.old }
     ensures items { streams.new.items ≡ streams_of (records_of messages.now) }
     ensures capacity { vec_capacity streams.new ≡ vec_capacity streams.old }
 {

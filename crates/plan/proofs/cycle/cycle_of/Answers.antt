@@ -4,7 +4,8 @@ use Rattle.clock.specs.Multiple.{lcm}
 use Rattle.plan.specs.declared.record.Record.{Record}
 use Rattle.plan.specs.Cycle.{cycle_of, periods_in}
 use Rattle.plan.specs.Held.{record_at}
-use Rattle.plan.specs.Messages.{records_of, records_within}
+use Rattle.plan.specs.Messages.{records_of}
+use Rattle.plan.specs.Kept.{records_within}
 use Rattle.plan.proofs.Recorded.{recorded_at}
 use Rattle.plan.proofs.Walked.{cycle_before, cycle_on, cycle_past}
 use Rattle.plan.proofs.cycle.cycle_of.Goals as goal

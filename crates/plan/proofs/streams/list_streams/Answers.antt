@@ -12,7 +12,8 @@ pub push_streams-requires : goal.push_streams-requires
 push_streams-requires c =
     let rs = records_of c.args.messages.now in
     let k = c.loop-message.message-index in
-    omega (arith, c.loop-message.streams.ok.0, ap length c.loop-message.invariant.0, streams_few (take k rs), length-take-le k rs (omega (arith, length-map c.args.messages.now (λ m. m.record))), c.loop-message.invariant.1, c.clear.ensures.capacity, c.requires)
+    let inside : k < length rs = omega (arith, length-map c.args.messages.now (λ m. m.record)) in
+    omega (arith, c.loop-message.streams.ok.0, ap length c.loop-message.invariant.0, streams_few (take k rs), length-take-le k rs (omega arith), c.loop-message.invariant.1, c.clear.ensures.capacity, c.requires)
 
 pub loop-message-preserved : goal.loop-message-preserved
 loop-message-preserved c =

@@ -67,7 +67,7 @@ invariant_of-self c =
     let back = restored (goal.at.invariant_of-self c).After-work_out in
     let same = c.in-Err.ensures.2 in
     record {
-      few = omega (arith, ap length back, p.few);
+      few = omega (arith, ap (λ ms. length (records_of ms)) back, p.few);
       distinct = ap (λ ms. apart (records_of ms)) back ∙ p.distinct;
       short = ap (λ ms. too_long (records_of ms)) back ∙ p.short;
       room = p.room;
@@ -92,7 +92,7 @@ invariant_of-self-in_default c =
     let h = (goal.at.invariant_of-self-in_default c).After-work_out in
     let short = sym (ap too_long (ap records_of c.deref.ensures.value ∙ stand h)) ∙ c.in_default.ensures.0 in
     record {
-      few = omega (arith, length-set p.messages.items at c.in_ok-checked.checked, p.few);
+      few = omega (arith, ap length (stand h), length-set rs at c.args.message, p.few);
       distinct = ap apart (stand h) ∙ altered_apart rs at c.args.message (stands h) p.distinct;
       short = ap too_long (stand h) ∙ short;
       room = p.room;

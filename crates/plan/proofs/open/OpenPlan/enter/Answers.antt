@@ -64,7 +64,7 @@ invariant_of-self c =
     let all : length p.schedule.cycles ≡ 16 = search rules in
     let new = ap records_of c.push_reserved.ensures.items ∙ map_push (λ (m : Message). m.record) p.messages.items c.in_ok-checked.checked in
     record {
-      few = omega (arith, ap length c.push_reserved.ensures.items, length_push p.messages.items c.in_ok-checked.checked, length-map p.messages.items (λ m. m.record), a.room);
+      few = omega (arith, ap length new, length_push rs r, a.room);
       distinct = ap apart new ∙ apart_push rs r p.distinct a.free;
       short = ap too_long new ∙ a.short;
       room = omega (arith, c.push_reserved.ensures.capacity, p.room);

@@ -1,7 +1,6 @@
 use Rattle.std.proofs.Common.{◌≡◌, ◌-◌, false, length, Ok, Err, sym, refl, ap, ◌∙◌, subst, arith}
 use Rattle.std.specs.List.{remove}
 use Rattle.std.specs.Option.{ok_or}
-use Rattle.std.proofs.lemmas.List.{length-map}
 use Rattle.std.proofs.lemmas.List.Edits.{length-remove}
 use Rattle.std.proofs.lemmas.Result.{err_from_is_err_and}
 use Rattle.bus.specs.declared.refusal.Refusal.TheVariants.{NotHeld}
@@ -42,7 +41,7 @@ invariant_of-self c =
     let p = c.args.self.now in
     let short = ap (λ ms. too_long (records_of ms)) c.deref.ensures.value ∙ ap too_long (left c) ∙ left_short c in
     record {
-      few = omega (arith, ap length c.remove.ensures.items, length-remove p.messages.items c.in_ok-at.at (omega (arith, (stands c).inside, length-map p.messages.items (λ m. m.record))), p.few);
+      few = omega (arith, ap length (left c), length-remove (held p) c.in_ok-at.at (stands c).inside, p.few);
       distinct = ap apart (left c) ∙ apart_removed (held p) c.in_ok-at.at p.distinct;
       short = ap too_long (left c) ∙ left_short c;
       room = omega (arith, c.remove.ensures.capacity, p.room);
