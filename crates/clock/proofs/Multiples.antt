@@ -1,6 +1,7 @@
 -- The least common multiple: its laws, from its being the least. Assumes nothing.
-use Rattle.std.proofs.Common.{◌≡◌, ℕ, zero, suc, ◌+◌, ◌-◌, ◌*◌, ◌/◌, ◌%◌, ◌<◌, ◌≤◌, Bool, true, false, eqb, List, [], ◌∷◌, fold, sym, refl, ap, ◌∙◌, subst, inl, inr, add-zero, mod-lt, mul_assoc, mul_comm, mul-le-mul_left, mul-pos, mul-zero, zero-mul, mul-one, mul-add, mul_left_comm, arith}
-use native.Mathlib.Nat.{mul-sub, mul-mod_right, div-add-mod, eq_of_mul-eq-mul_left, mul-div_cancel_left, zero-div}
+use Rattle.std.proofs.Common.{◌≡◌, ℕ, zero, suc, ◌+◌, ◌-◌, ◌*◌, ◌/◌, ◌%◌, ◌<◌, ◌≤◌, Bool, true, false, eqb, List, [], ◌∷◌, fold, sym, refl, ap, ◌∙◌, subst, inl, inr, add-zero, mod-lt, mul_assoc, mul_comm, mul-pos, mul-zero, zero-mul, mul-one, mul-add, mul_left_comm, arith}
+use Prim.Native.Nat.{◌∣◌}
+use native.Mathlib.Nat.{mod-eq-zero_of_dvd, dvd_antisymm, dvd-mod_iff, le_of_dvd, pos_of_dvd_of_pos, mul-sub, div-add-mod, eq_of_mul-eq-mul_left, mul-div_cancel_left, zero-div}
 use Rattle.std.specs.List.{AllByRecursion}
 use Rattle.std.proofs.lemmas.Bool.{cond_both, eqb-true, eqb-false, eq-eqb, cases_eq, cases_lt}
 use Rattle.clock.specs.Multiple.{first_from, lcm_steps, lcm, lcm_of, Divides, GreatestCommon, LeastCommon, LeastMultiples}
@@ -29,8 +30,15 @@ first_least (suc n) k test j h =
 pub divides_from_mod : (d n : ℕ) → n % d ≡ 0 → Divides d n
 divides_from_mod d n h = (n / d, omega (arith, div-add-mod n d))
 
+-- the library's form
+dvd : (d n : ℕ) → Divides d n → d ∣ n
+dvd d n h = ∣ h ∣₁
+
+from_dvd : (d n : ℕ) → d ∣ n → Divides d n
+from_dvd d n h = divides_from_mod d n (mod-eq-zero_of_dvd d h)
+
 mod_from_divides : (d n : ℕ) → Divides d n → n % d ≡ 0
-mod_from_divides d n (k, e) = ap (λ x. x % d) e ∙ mul-mod_right d k
+mod_from_divides d n h = mod-eq-zero_of_dvd d (dvd d n h)
 
 pub divides_self : (n : ℕ) → Divides n n
 divides_self n = (1, sym (mul-one n))
@@ -41,39 +49,28 @@ divides_zero d = (0, sym (mul-zero d))
 pub divides_on : (a b c : ℕ) → Divides a b → Divides b c → Divides a c
 divides_on a b c (j, e) (k, f) = (j * k, f ∙ ap (λ x. x * k) e ∙ mul_assoc a j k)
 
-divides_sum : (d m n : ℕ) → Divides d m → Divides d n → Divides d (m + n)
-divides_sum d m n (j, e) (k, f) = (j + k, omega (arith, mul-add d j k))
-
 divides_rest : (d m n : ℕ) → Divides d (m + n) → Divides d m → Divides d n
 divides_rest d m n (j, e) (k, f) = (j - k, omega (arith, mul-sub d j k))
 
 divides_times : (d n k : ℕ) → Divides d n → Divides d (n * k)
 divides_times d n k h = divides_on d n (n * k) h (k, refl)
 
--- only 0 is a multiple of 0
-zero_divides : (n : ℕ) → Divides 0 n → n ≡ 0
-zero_divides n (k, e) = e ∙ zero-mul k
-
 pub divides_le : (d n : ℕ) → 1 ≤ n → Divides d n → d ≤ n
-divides_le d n h (zero, e) = absurd (omega (arith, mul-zero d))
-divides_le d n h (suc k, e) = let p : 1 ≤ suc k = omega arith in omega (arith, mul-le-mul_left d p, mul-one d)
+divides_le d n some h = le_of_dvd some (dvd d n h)
 
 divides_some : (d n : ℕ) → 1 ≤ n → Divides d n → 1 ≤ d
-divides_some zero n h d = omega (arith, zero_divides n d)
-divides_some (suc d) n h _ = omega arith
+divides_some d n some h = pos_of_dvd_of_pos (dvd d n h) some
 
 -- numbers that divide each other are the same
 divides_same : (a b : ℕ) → Divides a b → Divides b a → a ≡ b
-divides_same zero b d e = sym (zero_divides b d)
-divides_same (suc a) zero d e = zero_divides (suc a) e
-divides_same (suc a) (suc b) d e = omega (arith, divides_le (suc a) (suc b) (omega arith) d, divides_le (suc b) (suc a) (omega arith) e)
+divides_same a b h k = dvd_antisymm (dvd a b h) (dvd b a k)
 
 -- Euclid's step: x and y have the common divisors of y and x % y
 pub divides_mod : (d x y : ℕ) → Divides d x → Divides d y → Divides d (x % y)
-divides_mod d x y dx dy = divides_rest d (y * (x / y)) (x % y) (subst (Divides d) (sym (div-add-mod x y)) dx) (divides_times d y (x / y) dy)
+divides_mod d x y dx dy = from_dvd d (x % y) ((dvd-mod_iff d (dvd d y dy)).1 (dvd d x dx))
 
 pub divides_unmod : (d x y : ℕ) → Divides d y → Divides d (x % y) → Divides d x
-divides_unmod d x y dy dm = subst (Divides d) (div-add-mod x y) (divides_sum d (y * (x / y)) (x % y) (divides_times d y (x / y) dy) dm)
+divides_unmod d x y dy dm = from_dvd d x ((dvd-mod_iff d (dvd d y dy)).0 (dvd d (x % y) dm))
 
 -- ---- two numbers
 
@@ -114,7 +111,7 @@ module _ (a b : ℕ) (pa : 1 ≤ a) (pb : 1 ≤ b) where
   lcm_pair = record { common = ((lcm_steps a b, refl), (steps_pass, tt)); least = λ m d. lcm_divides m d.0 d.1.0 }
 
   -- no other is the least
-  pub lcm_is : (m : ℕ) → LeastCommon (a ∷ b ∷ []) m → m ≡ lcm a b
+  lcm_is : (m : ℕ) → LeastCommon (a ∷ b ∷ []) m → m ≡ lcm a b
   lcm_is m h = divides_same m (lcm a b) (h.least (lcm a b) lcm_pair.common) (lcm_pair.least m h.common)
 
   -- by the greatest common divisor
@@ -140,17 +137,16 @@ module _ (a b : ℕ) (pa : 1 ≤ a) (pb : 1 ≤ b) where
 
 -- ---- what the code finds
 
-pub gcd_some : (a b g : ℕ) → 1 ≤ a → GreatestCommon a b g → 1 ≤ g
-gcd_some a b g pa h = divides_some g a pa h.left
-
-pub lcm_none : (b : ℕ) → LeastCommon (0 ∷ b ∷ []) 0
-lcm_none b = record { common = (divides_zero 0, (divides_zero b, tt)); least = λ k d. d.0 }
-
 pub lcm_found : (a b g : ℕ) → 1 ≤ a → GreatestCommon a b g → LeastCommon (a ∷ b ∷ []) (b / g * a)
 lcm_found a zero g pa h =
     let none : 0 / g * a ≡ 0 = ap (λ x. x * a) (zero-div g) ∙ zero-mul a in
     rw none (record { common = (divides_zero a, (divides_zero 0, tt)); least = λ k d. d.1.0 })
 lcm_found a (suc b) g pa h = let some : 1 ≤ suc b = omega arith in rw (lcm_by_gcd a (suc b) pa some g h) (lcm_pair a (suc b) pa some)
+
+-- the least common multiple of any number and one from 1 on
+pub lcm_told : (a b m : ℕ) → 1 ≤ b → LeastCommon (a ∷ b ∷ []) m → m ≡ lcm a b
+lcm_told zero b m pb h = divides_same m 0 (divides_zero m) h.common.0 ∙ sym (zero-mul (lcm_steps 0 b))
+lcm_told (suc a) b m pb h = lcm_is (suc a) b (omega arith) pb m h
 
 -- ---- lists
 

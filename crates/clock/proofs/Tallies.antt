@@ -4,8 +4,8 @@ use Rattle.std.proofs.lemmas.Nat.{le-div}
 use Rattle.std.proofs.lemmas.Int.{ints}
 use Rattle.std.proofs.lemmas.Bool.{cases_lt}
 use Rattle.clock.specs.declared.timing.Timing.{Timing}
-use Rattle.clock.specs.declared.timing.Timing.TheVariants.{Timed, Event}
-use Rattle.clock.specs.Timing.{Paced, lead, late, Counted, CountTold}
+use Rattle.clock.specs.declared.timing.Timing.TheVariants.{Event}
+use Rattle.clock.specs.Timing.{Paced, Counted, CountTold}
 
 in_time : (x jitter w : ℕ) → x ≤ w + jitter → (pos x -ℤ pos jitter) ≤ℤ pos w
 in_time x jitter w h = omega (arith, ints)
@@ -19,19 +19,6 @@ steps_within d t k h = let q : k ≤ d / t = omega arith in omega (arith, mul-le
 
 steps_past : (d t k : ℕ) → 1 ≤ t → d / t + 1 ≤ k → d < k * t
 steps_past d t k some h = elim (cases_lt d (k * t)) [ inl past ↦ past | inr upto ↦ absurd (omega (arith, le-div k d t some upto)) ]
-
-module _ (period offset jitter p w : ℕ) where
-  pub counted_none : w + jitter < lead period offset jitter p → Counted (Timed period offset) jitter p w 0
-  counted_none h = record {
-    placed = λ q one upto. absurd (omega arith);
-    later = λ q past. too_late (late (Timed period offset) jitter p q) jitter w (omega arith);
-  }
-
-  pub counted_timed : 1 ≤ period → lead period offset jitter p ≤ w + jitter → Counted (Timed period offset) jitter p w ((w + jitter - lead period offset jitter p) / period + 1)
-  counted_timed some h = let d : ℕ = w + jitter - lead period offset jitter p in record {
-    placed = λ q one upto. in_time (late (Timed period offset) jitter p q) jitter w (omega (arith, steps_within d period (q - 1) (omega arith)));
-    later = λ q past. too_late (late (Timed period offset) jitter p q) jitter w (omega (arith, steps_past d period (q - 1) some (omega arith)));
-  }
 
 pub counted_event : (gap jitter p w : ℕ) → 1 ≤ gap → Counted (Event gap) jitter p w ((w + jitter) / gap + 1)
 counted_event gap jitter p w some = record {

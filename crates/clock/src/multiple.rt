@@ -24,5 +24,5 @@ pub fn lcm(a: u32, b: u32) -> u64
     if a == 0 {
         return 0;
     }
-    (b / gcd(a, b)) as u64 * a as u64
+    u64::from(b / gcd(a, b)) * u64::from(a)
 }

@@ -8,7 +8,7 @@ const MOST_INSTANCES: u32 = 4194306;
 
 const LONGEST_SPAN: u64 = 20971520;
 
-#[derive(Clone, Copy)]
+#[derive(Clone, Copy, PartialEq, Eq, Debug)]
 pub enum Timing {
     // at the offset and then once in each period
     Timed { period: u32, offset: u32 },
@@ -22,7 +22,7 @@ fn lead(period: u32, offset: u32, jitter: u32, phase: u32) -> u64
     ensures is { result ≡ lead period offset jitter phase }
     ensures short { result < period }
 {
-    (offset as u64 + jitter as u64 + (period - phase % period) as u64) % period as u64
+    (u64::from(offset) + u64::from(jitter) + u64::from(period - phase % period)) % u64::from(period)
 }
 
 impl Timing {
@@ -30,8 +30,7 @@ impl Timing {
         ensures { Decides result (Paced self) }
     {
         match self {
-            Timing::Timed { period, .. } => period > 0,
-            Timing::Event { gap } => gap > 0,
+            Timing::Timed { period: step, .. } | Timing::Event { gap: step } => step > 0,
         }
     }
 
@@ -45,8 +44,8 @@ impl Timing {
     {
         match self {
             Timing::Timed { period, offset } => lead(period, offset, jitter, phase)
-                + (instance - 1) as u64 * period as u64,
-            Timing::Event { gap } => (instance - 1) as u64 * gap as u64,
+                + u64::from(instance - 1) * u64::from(period),
+            Timing::Event { gap } => u64::from(instance - 1) * u64::from(gap),
         }
     }
 
@@ -58,14 +57,14 @@ impl Timing {
         if !self.is_paced() || instance < 1 || instance > MOST_INSTANCES {
             return Err(Refusal::Question);
         }
-        Ok(self.late(jitter, phase, instance) as i64 - jitter as i64)
+        Ok(self.late(jitter, phase, instance) as i64 - i64::from(jitter))
     }
 
     // How many instances have a place of at most `window` at the phase.
     pub fn count(self, jitter: u32, phase: u32, window: u32) -> Result<u32, Refusal>
         ensures { CountTold self jitter phase window result }
     {
-        let span = window as u64 + jitter as u64;
+        let span = u64::from(window) + u64::from(jitter);
         if !self.is_paced() || span > LONGEST_SPAN {
             return Err(Refusal::Question);
         }
@@ -75,9 +74,9 @@ impl Timing {
                 if span < first {
                     return Ok(0);
                 }
-                Ok(((span - first) / period as u64 + 1) as u32)
+                Ok(((span - first) / u64::from(period) + 1) as u32)
             }
-            Timing::Event { gap } => Ok((span / gap as u64 + 1) as u32),
+            Timing::Event { gap } => Ok((span / u64::from(gap) + 1) as u32),
         }
     }
 
@@ -90,7 +89,7 @@ impl Timing {
         }
         match self {
             Timing::Timed { period, offset } => Ok(Some(
-                phase as u64 + lead(period, offset, jitter, phase),
+                u64::from(phase) + lead(period, offset, jitter, phase),
             )),
             Timing::Event { .. } => Ok(None),
         }

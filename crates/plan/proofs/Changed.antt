@@ -1,26 +1,56 @@
--- The records stay sound as a message is altered or struck. Assumes nothing.
-use Rattle.std.proofs.Common.{◌≡◌, ℕ, zero, suc, ◌<◌, true, false, not, ◌&&◌, ◌||◌, eqb, List, [], ◌∷◌, length, set, sym, refl, ap, ◌∙◌, le_trans, arith}
-use Rattle.std.specs.List.{remove}
-use Rattle.std.proofs.lemmas.List.Edits.{length-remove}
-use Rattle.std.proofs.lemmas.List.{length-set, set_split}
-use Rattle.std.proofs.lemmas.Bool.{and_parts, and_from, or_from, or_parts, not-true, not_from_false}
+-- The records stay sound, and their schedule in step, as a message is entered, altered or struck. Assumes nothing.
+use Rattle.std.proofs.Common.{◌≡◌, ℕ, zero, suc, ◌<◌, max, true, false, not, ◌&&◌, ◌||◌, ◌==◌, ◌≢◌, eqb, List, [], ◌∷◌, ◌++◌, length, set, Ok, Err, Result, sym, refl, ap, ◌∙◌, le_trans, subst, inl, inr, arith}
+use Rattle.std.specs.List.{remove, slice_index, slice_set}
+use Rattle.std.proofs.lemmas.List.{set_split, get_or-set_same, get_or-set_other, flat_map_more}
+use Rattle.std.proofs.lemmas.List.Recursion.{or_push}
+use Rattle.std.proofs.lemmas.List.Sums.{fold_push}
+use Rattle.std.proofs.lemmas.Bool.{and_parts, and_from, or_from, or_parts, not-true, not_from_false, both_ways, eqb-false, ne_eqb, cases_eq}
+use Rattle.bus.specs.declared.refusal.Refusal.{Refusal}
 use Rattle.plan.specs.declared.record.Record.{Record}
-use Rattle.plan.specs.Record.{within}
-use Rattle.plan.specs.Cycle.{all_within}
+use Rattle.plan.specs.declared.schedule.Schedule.{Schedule}
+use Rattle.plan.specs.Cycle.{cycle_of}
 use Rattle.plan.specs.Held.{record_at, Stands}
 use Rattle.plan.specs.Open.{holds, apart, too_long, altered, struck}
-use Rattle.plan.specs.Kept.{Sound, short_at, short_nowhere}
+use Rattle.plan.specs.Schedule.{Works, WorksOut}
+use Rattle.plan.specs.Streams.{parts}
+use Rattle.plan.specs.Kept.{Sound, cycle_elsewhere, short_at, short_nowhere}
 use Rattle.plan.proofs.Places.{giving_way_at}
 use Rattle.plan.proofs.Walked.{cycle_without}
 
--- ---- another record in a place
+-- ---- a schedule worked out
 
-pub within_set : (rs : List Record) (k : ℕ) (r : Record) → all_within rs ≡ true → within r ≡ true → all_within (set rs k r) ≡ true
-within_set [] k r all good = refl
-within_set (x ∷ rs) zero r all good = and_from (within r) (all_within rs) good (and_parts (within x) (all_within rs) all).1
-within_set (x ∷ rs) (suc k) r all good =
-    let both = and_parts (within x) (all_within rs) all in
-    and_from (within x) (all_within (set rs k r)) both.0 (within_set rs k r both.1 good)
+module _ (rs : List Record) (old new : Schedule) where
+  pub works : (done : Result (Unit {0}) Refusal) → WorksOut rs old done new → too_long rs ≡ false → Works rs new
+  works (Ok done) out short = out.1
+  works (Err e) out short = absurd (both_ways (too_long rs) short out.0)
+
+-- ---- one message more
+
+holds_push : (identifier : ℕ) (rs : List Record) (r : Record) → holds identifier rs ≡ false → (r.identifier ≢ identifier) → holds identifier (rs ++ r ∷ []) ≡ false
+holds_push identifier rs r none other = or_push (holds identifier) (λ x. x.identifier == identifier) refl (λ _ _. refl) rs r ∙ or_from _ _ none (ne_eqb r.identifier identifier other)
+
+pub apart_push : (rs : List Record) (r : Record) → apart rs ≡ true → holds r.identifier rs ≡ false → apart (rs ++ r ∷ []) ≡ true
+apart_push [] r h free = refl
+apart_push (x ∷ rs) r h free =
+    let both = and_parts (not (holds x.identifier rs)) (apart rs) h in
+    let new = or_parts (x.identifier == r.identifier) (holds r.identifier rs) free in
+    and_from (not (holds x.identifier (rs ++ r ∷ []))) (apart (rs ++ r ∷ []))
+    (not_from_false _ (holds_push x.identifier rs r (not-true _ both.0) (λ e. eqb-false x.identifier r.identifier new.0 (sym e))))
+    (apart_push rs r both.1 new.1)
+
+-- what is added to a schedule
+pub entered_works : (rs : List Record) (r : Record) (old new : Schedule) (cycle : ℕ) → Works rs old → length old.cycles ≡ 16 → cycle ≡ cycle_of r.node (rs ++ r ∷ []) → new.streams.items ≡ old.streams.items ++ parts r r.kind → new.cycles ≡ slice_set old.cycles r.node cycle → new.reach ≡ max old.reach r.jitter
+    → Works (rs ++ r ∷ []) new
+entered_works rs r old new cycle before all is streams cycles reach = record {
+  carried = streams ∙ ap (λ x. x ++ parts r r.kind) before.carried ∙ flat_map_more (λ x. parts x x.kind) [] rs r;
+  cycled = λ n h. ap (λ cs. slice_index cs n) cycles ∙ elim (cases_eq r.node n) [
+    | inl same ↦ subst (λ k. slice_index (slice_set old.cycles r.node cycle) k ≡ cycle_of k (rs ++ r ∷ [])) same (get_or-set_same old.cycles r.node cycle 0 (omega arith) ∙ is)
+    | inr other ↦ get_or-set_other old.cycles r.node n cycle 0 (λ e. other (sym e)) ∙ before.cycled n h ∙ sym (cycle_elsewhere rs r n other)
+  ];
+  reached = reach ∙ ap (λ x. max x r.jitter) before.reached ∙ sym (fold_push (λ m x. max m x.jitter) 0 rs r);
+}
+
+-- ---- another record in a place
 
 holds_set : (identifier : ℕ) (rs : List Record) (k : ℕ) (r : Record) → k < length rs → (record_at rs k).identifier ≡ r.identifier → holds identifier (set rs k r) ≡ holds identifier rs
 holds_set identifier [] k r inside same = refl
@@ -38,23 +68,10 @@ module _ (rs : List Record) (k : ℕ) (r : Record) (at : Stands r.identifier rs 
   pub altered_is : set rs k r ≡ altered r rs
   altered_is = set_split rs k r at.inside ∙ sym (giving_way_at r.identifier (r ∷ []) rs k at.inside at.named at.first)
 
-  pub altered_sound : Sound rs → within r ≡ true → too_long (set rs k r) ≡ false → Sound (set rs k r)
-  altered_sound s good short = record {
-    few = omega (arith, length-set rs k r, s.few);
-    within = within_set rs k r s.within good;
-    distinct = apart_set rs k r at.inside at.named ∙ s.distinct;
-    short = short;
-  }
+  pub altered_apart : apart rs ≡ true → apart (set rs k r) ≡ true
+  altered_apart distinct = apart_set rs k r at.inside at.named ∙ distinct
 
 -- ---- no record in a place
-
-within_removed : (rs : List Record) (k : ℕ) → all_within rs ≡ true → all_within (remove rs k) ≡ true
-within_removed [] zero all = refl
-within_removed [] (suc k) all = refl
-within_removed (x ∷ rs) zero all = (and_parts (within x) (all_within rs) all).1
-within_removed (x ∷ rs) (suc k) all =
-    let both = and_parts (within x) (all_within rs) all in
-    and_from (within x) (all_within (remove rs k)) both.0 (within_removed rs k both.1)
 
 holds_removed : (identifier : ℕ) (rs : List Record) (k : ℕ) → holds identifier rs ≡ false → holds identifier (remove rs k) ≡ false
 holds_removed identifier [] zero none = refl
@@ -64,7 +81,7 @@ holds_removed identifier (x ∷ rs) (suc k) none =
     let both = or_parts (eqb x.identifier identifier) (holds identifier rs) none in
     or_from (eqb x.identifier identifier) (holds identifier (remove rs k)) both.0 (holds_removed identifier rs k both.1)
 
-apart_removed : (rs : List Record) (k : ℕ) → apart rs ≡ true → apart (remove rs k) ≡ true
+pub apart_removed : (rs : List Record) (k : ℕ) → apart rs ≡ true → apart (remove rs k) ≡ true
 apart_removed [] zero distinct = refl
 apart_removed [] (suc k) distinct = refl
 apart_removed (x ∷ rs) zero distinct = (and_parts (not (holds x.identifier rs)) (apart rs) distinct).1
@@ -76,10 +93,5 @@ module _ (identifier : ℕ) (rs : List Record) (k : ℕ) (at : Stands identifier
   pub struck_is : remove rs k ≡ struck identifier rs
   struck_is = sym (giving_way_at identifier [] rs k at.inside at.named at.first)
 
-  pub struck_sound : Sound rs → Sound (remove rs k)
-  struck_sound s = record {
-    few = omega (arith, length-remove rs k at.inside, s.few);
-    within = within_removed rs k s.within;
-    distinct = apart_removed rs k s.distinct;
-    short = short_nowhere (remove rs k) (λ n h. le_trans (cycle_without rs s.within n k) (short_at rs n s.short h));
-  }
+pub short_removed : (rs : List Record) (k : ℕ) → Sound rs → too_long (remove rs k) ≡ false
+short_removed rs k s = short_nowhere (remove rs k) (λ n h. le_trans (cycle_without rs s.within n k) (short_at rs n s.short h))

@@ -44,9 +44,6 @@ module _ (rs : List Record) (i : ℕ) where
       pub phase_past : cycle ≤ p → Asked (Numbered × Phased p) (stream_at rs i) (Err Question)
       phase_past past = record { answered = λ f. absurd (let l = f.1 in omega (arith, cycle_is)); refused = λ _. refl }
 
-      pub phase_inside : p < cycle → Asked (Numbered × Phased p) (stream_at rs i) (Ok x)
-      phase_inside inside = answer (found.0, omega (arith, cycle_is)) found.1
-
   module _ (s : Sound rs) (x : Stream) (p : ℕ) (told : Asked (Numbered × Phased p) (stream_at rs i) (Ok x)) where
     held : (Numbered × Phased p) × (x ≡ stream_at rs i)
     held = within (numbered_phased p) told refl

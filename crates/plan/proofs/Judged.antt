@@ -1,5 +1,6 @@
 -- Which rule refuses a call. Assumes nothing.
-use Rattle.std.proofs.Common.{◌≡◌, ℕ, ◌<◌, ◌≤◌, true, false, not, leb, List, [], ◌∷◌, ◌++◌, length, is_ok, Ok, Err, Result, sym, ap, ◌∙◌, arith}
+use Rattle.std.proofs.Common.{◌≡◌, ℕ, ◌<◌, ◌≤◌, true, false, not, leb, List, [], ◌∷◌, ◌++◌, length, is_ok, Some, None, Ok, Err, Option, Result, sym, ap, ◌∙◌, arith}
+use Rattle.std.specs.Option.{ok_or}
 use Rattle.std.proofs.lemmas.Bool.{cond-true, cond-false, not_from_true, not_from_false, le-leb, lt-leb, leb-false}
 use Rattle.bus.specs.declared.refusal.Refusal.{Refusal}
 use Rattle.bus.specs.declared.refusal.Refusal.TheVariants.{Held, NotHeld, Full, Cycle}
@@ -7,10 +8,10 @@ use Rattle.bus.specs.Refused.{Rules, answer, Done}
 use Rattle.bus.proofs.Refusing.{rule_passed, answer_past, answer_stays, answer_parts}
 use Rattle.plan.specs.declared.record.Record.{Record}
 use Rattle.plan.specs.Record.{limits, within}
-use Rattle.plan.specs.Cycle.{cycle_of}
+use Rattle.plan.specs.Cycle.{cycle_of, CycleTold}
 use Rattle.plan.specs.Open.{holds, too_long, altered, enter_rules, alter_rules, strike_rules}
 use Rattle.plan.specs.Limited.{fits}
-use Rattle.plan.specs.Kept.{long_at}
+use Rattle.plan.specs.Kept.{long_at, short_entered}
 
 module _ (rs : List Record) (r : Record) where
   -- the rules past the record's own limits
@@ -42,6 +43,11 @@ module _ (rs : List Record) (r : Record) where
 
           pub accepted : too_long (rs ++ r ∷ []) ≡ false → answer (enter_rules r rs) v ≡ Ok v
           accepted short = to_cycle ∙ cond-false (too_long (rs ++ r ∷ [])) _ _ short
+
+  -- the cycle decides on a message that no earlier rule refuses
+  pub judged : within r ≡ true → holds r.identifier rs ≡ false → length rs < 64 → too_long rs ≡ false → (told : Option ℕ) → CycleTold (cycle_of r.node (rs ++ r ∷ [])) told → ok_or told Cycle ≡ answer (enter_rules r rs) (cycle_of r.node (rs ++ r ∷ []))
+  judged good free room short (Some cycle) is = ap Ok is.0 ∙ sym (accepted (cycle_of r.node (rs ++ r ∷ [])) good free room (short_entered rs r short (omega (arith, is))))
+  judged good free room short None long = sym (refused_cycle (cycle_of r.node (rs ++ r ∷ [])) good free room long)
 
   -- what is known of a message that no rule refuses
   pub record Accepted : Type 0 where

@@ -1,3 +1,4 @@
+pub mod Recorded
 pub mod Places
 pub mod Walked
 pub mod Changed

@@ -10,13 +10,13 @@ use Rattle.plan.specs.Record.{limits}
 use Rattle.plan.specs.Book.{Call, Enter, Alter, Strike, open_book, settled_before, settled_after, rules_of, GivesWay, Makes, tells, Step}
 use Rattle.plan.specs.Open.{holds, giving_way, altered, struck, enter_rules, alter_rules, strike_rules}
 use Rattle.plan.proofs.Judged.{of_altered}
-use Rattle.plan.proofs.Walked.{all_parts}
+use Rattle.plan.specs.Carried.{all_parts}
 
 -- none of the rules applies to a call that is not refused
 abbrev Allowed : Rules → Type 0
 Allowed rules = AllByRecursion (λ rule. rule.0 ≡ false) rules
 
-told : (rules : Rules) (n m : ℕ) → Ok n ≡ answer rules m → n ≡ m
+pub told : (rules : Rules) (n m : ℕ) → Ok n ≡ answer rules m → n ≡ m
 told rules n m h = let passed = answer_passed rules m m (sym (ap is_ok h)) in cc
 
 -- a call that comes while the book is open, and makes `new` of its records

@@ -1,5 +1,6 @@
 -- The first turning phase of a node, stream by stream. Assumes nothing.
-use Rattle.std.proofs.Common.{◌≡◌, ℕ, ◌+◌, ◌<◌, Bool, true, false, ◌||◌, List, [], ◌∷◌, ◌++◌, length, get_or, take, sym, refl, ap, ◌∙◌, subst, inl, inr, arith}
+use Rattle.std.proofs.Common.{◌≡◌, ℕ, ◌+◌, ◌<◌, ◌||◌, List, [], ◌∷◌, ◌++◌, length, get_or, take, sym, refl, ap, ◌∙◌, subst, inl, inr, arith}
+use Rattle.std.proofs.Math.Bool.{or_assoc}
 use Rattle.std.proofs.lemmas.List.{take_more}
 use Rattle.std.proofs.lemmas.Bool.{or_left, or_right, or_from, cases_lt}
 use Rattle.plan.specs.declared.streams.Stream.{Stream}
@@ -8,10 +9,6 @@ use Rattle.plan.specs.Streams.{silent, turning, some_turn, Soonest}
 some_turn_append : (n k : ℕ) (xs ys : List Stream) → some_turn n k (xs ++ ys) ≡ (some_turn n k xs || some_turn n k ys)
 some_turn_append n k [] ys = refl
 some_turn_append n k (x ∷ xs) ys = ap (λ b. turning n k x || b) (some_turn_append n k xs ys) ∙ sym (or_assoc (turning n k x) (some_turn n k xs) (some_turn n k ys))
-  where
-    or_assoc : (a b c : Bool) → ((a || b) || c) ≡ (a || (b || c))
-    or_assoc true b c = refl
-    or_assoc false b c = refl
 
 -- the streams of two lists, the second up to where the first turns
 soonest_append : (n p end b c : ℕ) (xs ys : List Stream) → Soonest n p end xs b → Soonest n p b ys c → Soonest n p end (xs ++ ys) c

@@ -9,13 +9,10 @@ use Rattle.plan.specs.declared.record.Record.{Record}
 use Rattle.plan.specs.Cycle.{all_within, periods_in, periods_at, periods, cycle_of}
 use Rattle.plan.specs.Held.{no_record, record_at}
 use Rattle.plan.specs.Streams.{parts, streams_of}
+use Rattle.plan.specs.Carried.{all_parts}
 use Rattle.plan.specs.Kept.{periods_some, cycle_here, cycle_elsewhere}
 
 -- ---- fewer messages have no longer a cycle
-
-pub all_parts : {A : Type 0} (P : A → Type 0) (xs ys : List A) → AllByRecursion P (xs ++ ys) → AllByRecursion P xs × AllByRecursion P ys
-all_parts P [] ys h = (tt, h)
-all_parts P (x ∷ xs) ys h = let rest = all_parts P xs ys h.1 in ((h.0, rest.0), rest.1)
 
 fewer_multiples : (ns ms : List ℕ) → AllByRecursion (λ t. 1 ≤ t) ms → ((P : ℕ → Type 0) → AllByRecursion P ms → AllByRecursion P ns) → lcm_of ns ≤ lcm_of ms
 fewer_multiples ns ms some part =
@@ -39,9 +36,6 @@ periods_removed n (r ∷ rs) (suc k) P h =
     All-append P (periods_at n r) (periods n (remove rs k)) both.0 (periods_removed n rs k P both.1)
 
 module _ (rs : List Record) (all : all_within rs ≡ true) (n k : ℕ) where
-  pub cycle_before_some : 1 ≤ cycle_of n (take k rs)
-  cycle_before_some = lcm_of_some (periods n (take k rs)) (periods_take n rs k (λ t. 1 ≤ t) (periods_some n rs all))
-
   pub cycle_before : cycle_of n (take k rs) ≤ cycle_of n rs
   cycle_before = fewer_multiples (periods n (take k rs)) (periods n rs) (periods_some n rs all) (periods_take n rs k)
 

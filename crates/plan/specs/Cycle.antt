@@ -25,10 +25,13 @@ periods n rs = flat_map (periods_at n) rs
 abbrev pub cycle_of : ℕ → List Record → ℕ
 cycle_of n rs = lcm_of (periods n rs)
 
--- it is told unless it is above 4,194,304
+-- a cycle is told unless it is above 4,194,304
+abbrev pub CycleTold : ℕ → Option ℕ → Type 0
+CycleTold whole (Some cycle) = (cycle ≡ whole) × (cycle ≤ 4194304)
+CycleTold whole None = 4194304 < whole
+
 abbrev pub CycleAsked : ℕ → List Record → Option ℕ → Type 0
-CycleAsked n rs (Some cycle) = (cycle ≡ cycle_of n rs) × (cycle ≤ 4194304)
-CycleAsked n rs None = 4194304 < cycle_of n rs
+CycleAsked n rs told = CycleTold (cycle_of n rs) told
 
 abbrev pub all_within : List Record → Bool
 all_within [] = true

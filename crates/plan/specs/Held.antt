@@ -1,12 +1,13 @@
--- The records that a plan holds. Assumes nothing.
-use Rattle.std.specs.Prelude.{◌≡◌, ℕ, ◌<◌, ◌≤◌, false, List, length, take, Some, None, vec_items, Option, slice_index_or}
+-- The records that a plan holds: those of its messages. Assumes nothing.
+use Rattle.std.specs.Prelude.{◌≡◌, ℕ, ◌<◌, ◌≤◌, false, List, length, take, Some, None, Option, slice_index_or}
 use Rattle.plan.specs.declared.record.Kind.TheVariants.{Periodic}
 use Rattle.plan.specs.declared.record.Record.{Record}
 use Rattle.plan.specs.declared.open.OpenPlan.{OpenPlan}
+use Rattle.plan.specs.Messages.{records_of}
 use Rattle.plan.specs.Open.{holds}
 
 abbrev pub held : OpenPlan → List Record
-held p = vec_items p.records
+held p = records_of p.messages.items
 
 -- what is read past the end
 abbrev pub no_record : Record

@@ -1,6 +1,8 @@
 pub mod Record
 pub mod Cycle
+pub mod Messages
 pub mod Streams
+pub mod Schedule
 pub mod Open
 pub mod Held
 pub mod Book

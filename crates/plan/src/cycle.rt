@@ -1,59 +1,52 @@
 // The cycle of a node: the least common multiple of its periods.
-ghost use Rattle.std.specs.Prelude.{◌≡◌, ◌≤◌, true, fold};
+ghost use Rattle.std.specs.Prelude.{fold};
 ghost use Rattle.clock.specs.Multiple.{lcm};
-ghost use Rattle.plan.specs.Cycle.{periods_in, all_within, CycleAsked};
+ghost use Rattle.plan.specs.Cycle.{periods_in, CycleTold, CycleAsked};
+ghost use Rattle.plan.specs.Messages.{records_of};
 ghost use Rattle.plan.specs.Open.{CyclesAsked};
-ghost use Rattle.plan.specs.Record.{intervals};
 
-use crate::record::{Kind, Record};
+use crate::record::{Kind, Message};
 use clock::multiple;
 
-const NODES: usize = 16;
+pub(crate) const NODES: usize = 16;
 
-pub(crate) const LONGEST_CYCLE: u64 = 4194304;
+const LONGEST_CYCLE: u64 = 4194304;
 
-// The cycle of a node with the period of one more message.
-pub(crate) fn cycle_with(cycle: u32, kind: Kind) -> u64
-    requires some { 1 ≤ cycle }
-    requires within { intervals kind ≡ true }
-    ensures { result ≡ fold lcm cycle (periods_in kind) }
-{
-    match kind {
-        Kind::Periodic { period, .. } => multiple::lcm(cycle, period as u32),
-        Kind::Mixed { period, .. } => multiple::lcm(cycle, period as u32),
-        Kind::Sporadic { .. } => cycle as u64,
+impl Message {
+    // The cycle of a node with the period of one more message, unless it is too long.
+    pub(crate) fn cycle_with(&self, cycle: u32) -> Option<u32>
+        ensures { CycleTold (fold lcm cycle (periods_in self.now.record.kind)) result }
+    {
+        let longer = match self.record.kind {
+            Kind::Periodic { period, .. } | Kind::Mixed { period, .. } => {
+                multiple::lcm(cycle, period as u32)
+            }
+            Kind::Sporadic { .. } => u64::from(cycle),
+        };
+        (longer <= LONGEST_CYCLE).then(|| longer as u32)
     }
 }
 
 // The cycle of a node, unless it is too long.
-fn cycle_of(records: &[Record], node: u64) -> Option<u32>
-    requires { all_within records.now ≡ true }
-    ensures { CycleAsked node records.now result }
+fn cycle_of(messages: &[Message], node: u64) -> Option<u32>
+    ensures { CycleAsked node (records_of messages.now) result }
 {
     let mut cycle = 1;
-    for message in records {
-        if message.node == node {
-            let longer = cycle_with(cycle, message.kind);
-            if longer > LONGEST_CYCLE {
-                return None;
-            }
-            cycle = longer as u32;
+    for message in messages {
+        if message.record.node == node {
+            cycle = message.cycle_with(cycle)?;
         }
     }
     Some(cycle)
 }
 
 // The cycle of each node, unless one is too long.
-pub(crate) fn cycles_of(records: &[Record]) -> Option<[u32; NODES]>
-    requires { all_within records.now ≡ true }
-    ensures { CyclesAsked records.now result }
+pub(crate) fn cycles_of(messages: &[Message]) -> Option<[u32; NODES]>
+    ensures { CyclesAsked (records_of messages.now) result }
 {
     let mut cycles = [1; NODES];
-    for node in 0..NODES {
-        let Some(cycle) = cycle_of(records, node as u64) else {
-            return None;
-        };
-        cycles[node] = cycle;
+    for (node, cycle) in cycles.iter_mut().enumerate() {
+        *cycle = cycle_of(messages, node as u64)?;
     }
     Some(cycles)
 }

@@ -4,4 +4,5 @@
 mod cycle;
 pub mod open;
 pub mod record;
+mod schedule;
 pub mod streams;

@@ -1,7 +1,7 @@
 // What is declared of a message, and the limits of each number.
-ghost use Rattle.std.specs.Prelude.{◌≡◌};
+ghost use Rattle.std.specs.Prelude.{◌≡◌, true, Err, MatchResult};
 ghost use Rattle.bus.specs.Refused.{answer};
-ghost use Rattle.plan.specs.Record.{interval, intervals, offset_below, limits};
+ghost use Rattle.plan.specs.Record.{interval, intervals, offset_below, limits, within};
 
 use bus::refusal::Refusal;
 
@@ -35,10 +35,17 @@ pub struct Record {
     pub due: u64,
 }
 
+// A record whose numbers are within their limits.
+#[derive(Clone, Copy, PartialEq, Eq, Debug)]
+pub struct Message {
+    pub record: Record,
+    pub ghost within: { within «record» ≡ true },
+}
+
 fn is_interval(n: u64) -> bool
     ensures { result ≡ interval n }
 {
-    0 < n && n <= LONGEST_INTERVAL
+    (1..=LONGEST_INTERVAL).contains(&n)
 }
 
 impl Kind {
@@ -46,8 +53,7 @@ impl Kind {
         ensures { result ≡ intervals self }
     {
         match self {
-            Kind::Periodic { period, .. } => is_interval(period),
-            Kind::Sporadic { gap } => is_interval(gap),
+            Kind::Periodic { period: n, .. } | Kind::Sporadic { gap: n } => is_interval(n),
             Kind::Mixed { period, gap, .. } => is_interval(period) && is_interval(gap),
         }
     }
@@ -56,17 +62,18 @@ impl Kind {
         ensures { result ≡ offset_below self }
     {
         match self {
-            Kind::Periodic { period, offset } | Kind::Mixed { period, offset, .. } => offset
-                < period,
+            Kind::Periodic { period, offset } | Kind::Mixed { period, offset, .. } => {
+                offset < period
+            }
             Kind::Sporadic { .. } => true,
         }
     }
 }
 
 impl Record {
-    // Whether each number is within its limits.
-    pub(crate) fn check(self) -> Result<(), Refusal>
-        ensures { result ≡ answer (limits self) (tt {0}) }
+    // The message of the record, if each number is within its limits.
+    pub fn check(self) -> Result<Message, Refusal>
+        ensures { MatchResult result (λ m. m.record ≡ self) (λ e. answer (limits self) (tt {0}) ≡ Err e) }
     {
         if self.identifier > LARGEST_IDENTIFIER {
             return Err(Refusal::Identifier);
@@ -86,9 +93,23 @@ impl Record {
         if self.jitter > LARGEST_JITTER {
             return Err(Refusal::Jitter);
         }
-        if self.due == 0 || self.due > LATEST_DUE {
+        if !(1..=LATEST_DUE).contains(&self.due) {
             return Err(Refusal::Due);
         }
-        Ok(())
+        Ok(Message { record: self })
+    }
+}
+
+impl Message {
+    pub(crate) fn node(&self) -> u32
+        ensures { result ≡ self.now.record.node }
+    {
+        self.record.node as u32
+    }
+
+    pub(crate) fn jitter(&self) -> u32
+        ensures { result ≡ self.now.record.jitter }
+    {
+        self.record.jitter as u32
     }
 }

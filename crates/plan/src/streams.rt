@@ -1,17 +1,17 @@
 // The streams of the messages, in their order: what is asked of a traffic again and again.
-ghost use Rattle.std.specs.Prelude.{◌≡◌, ◌+◌, ◌*◌, ◌≤◌, true, [], ◌∷◌, ◌++◌, length, vec_len, vec_capacity};
+ghost use Rattle.std.specs.Prelude.{◌≡◌, ◌+◌, ◌*◌, ◌≤◌, [], ◌∷◌, ◌++◌, length, vec_len, vec_capacity};
 ghost use Rattle.std.specs.List.{AllByRecursion};
 ghost use Rattle.clock.specs.Timing.{Paced};
-ghost use Rattle.plan.specs.Cycle.{all_within};
-ghost use Rattle.plan.specs.Record.{within};
+ghost use Rattle.plan.specs.Messages.{records_of};
 ghost use Rattle.plan.specs.Streams.{stream_of, parts, streams_of, reach_of, SoonestFound};
 
-use crate::record::{Kind, Record};
+use crate::record::{Kind, Message};
 use bus::frame;
 use bus::refusal::Refusal;
 use clock::timing::Timing;
 
-#[derive(Clone, Copy)]
+// That its timing is paced stands in the contracts below: a fact of the type would ask it of every stream that a definition builds.
+#[derive(Clone, Copy, PartialEq, Eq, Debug)]
 pub struct Stream {
     pub node: u32,
     pub identifier: u32,
@@ -20,78 +20,63 @@ pub struct Stream {
     pub timing: Timing,
 }
 
-fn stream_of(message: Record, timing: Timing) -> Stream
-    requires { within message ≡ true }
-    ensures { result ≡ stream_of message timing }
-{
-    let longest = frame::longest(message.bytes as u32).unwrap();
-    Stream {
-        node: message.node as u32,
-        identifier: message.identifier as u32,
-        longest,
-        jitter: message.jitter as u32,
-        timing,
+impl Message {
+    // Its stream of a timing.
+    fn stream(&self, timing: Timing) -> Stream
+        ensures { result ≡ stream_of self.now.record timing }
+    {
+        let longest = frame::longest(self.record.bytes as u32).unwrap();
+        Stream {
+            node: self.node(),
+            identifier: self.record.identifier as u32,
+            longest,
+            jitter: self.jitter(),
+            timing,
+        }
     }
 }
 
 // Adds the timed stream of a message, if it has one, and then its event stream, if it has one.
-pub(crate) fn push_streams(streams: &mut Vec<Stream>, message: Record)
-    requires within { within message ≡ true }
-    requires room { vec_len streams.old + 2 ≤ vec_capacity streams.old }
-    ensures items { streams.new.items ≡ streams.old.items ++ parts message message.kind }
+pub(crate) fn push_streams(streams: &mut Vec<Stream>, message: &Message)
+    requires { vec_len streams.old + 2 ≤ vec_capacity streams.old }
+    ensures items { streams.new.items ≡ streams.old.items ++ parts message.now.record message.now.record.kind }
     ensures capacity { vec_capacity streams.new ≡ vec_capacity streams.old }
 {
-    match message.kind {
-        Kind::Periodic { period, offset } => {
-            let timing = Timing::Timed {
-                period: period as u32,
-                offset: offset as u32,
-            };
-            streams.push_reserved(stream_of(message, timing));
-        }
-        Kind::Sporadic { gap } => {
-            let timing = Timing::Event { gap: gap as u32 };
-            streams.push_reserved(stream_of(message, timing));
-        }
-        Kind::Mixed {
-            period,
-            offset,
-            gap,
-        } => {
-            let timed = Timing::Timed {
-                period: period as u32,
-                offset: offset as u32,
-            };
-            let event = Timing::Event { gap: gap as u32 };
-            streams.push_reserved(stream_of(message, timed));
-            streams.push_reserved(stream_of(message, event));
-        }
+    let kind = message.record.kind;
+    if let Kind::Periodic { period, offset } | Kind::Mixed { period, offset, .. } = kind {
+        let timed = Timing::Timed {
+            period: period as u32,
+            offset: offset as u32,
+        };
+        streams.push_reserved(message.stream(timed));
+    }
+    if let Kind::Sporadic { gap } | Kind::Mixed { gap, .. } = kind {
+        let event = Timing::Event { gap: gap as u32 };
+        streams.push_reserved(message.stream(event));
     }
 }
 
 // Lists the streams of the messages, in place of those that stood there.
-pub(crate) fn list_streams(streams: &mut Vec<Stream>, records: &[Record])
-    requires within { all_within records.now ≡ true }
-    requires room { 2 * length records.now ≤ vec_capacity streams.old }
-    ensures items { streams.new.items ≡ streams_of records.now }
+pub(crate) fn list_streams(streams: &mut Vec<Stream>, messages: &[Message])
+    requires { 2 * length (records_of messages.now) ≤ vec_capacity streams.old }
+    ensures items { streams.new.items ≡ streams_of (records_of messages.now) }
     ensures capacity { vec_capacity streams.new ≡ vec_capacity streams.old }
 {
     streams.clear();
-    for message in records {
-        push_streams(streams, *message);
+    for message in messages {
+        push_streams(streams, message);
     }
 }
 
 // The largest jitter, or 0.
-pub(crate) fn largest_jitter(records: &[Record]) -> u32
-    requires { all_within records.now ≡ true }
-    ensures { result ≡ reach_of records.now }
+pub(crate) fn largest_jitter(messages: &[Message]) -> u32
+    ensures { result ≡ reach_of (records_of messages.now) }
 {
-    let mut largest: u32 = 0;
-    for message in records {
-        largest = largest.max(message.jitter as u32);
-    }
-    largest
+    messages
+        .iter()
+        .map(|message| message.jitter())
+        .max()
+        .unwrap_or(0)
 }
 
 impl Stream {
@@ -104,10 +89,8 @@ impl Stream {
         if self.node != node {
             return Ok(end);
         }
-        match self.timing.next_turn(self.jitter, phase)? {
-            Some(turn) => Ok(turn.min(end as u64) as u32),
-            None => Ok(end),
-        }
+        let turn = self.timing.next_turn(self.jitter, phase)?;
+        Ok(turn.map_or(end, |turn| turn.min(u64::from(end)) as u32))
     }
 }
 

@@ -4,39 +4,16 @@ ghost use Rattle.bus.specs.Refused.{answer, Done};
 ghost use Rattle.plan.specs.Book.{Step, Enter, open_book, first_book};
 ghost use Rattle.plan.specs.Cycle.{cycle_of, LeastCycles};
 ghost use Rattle.plan.specs.Held.{held, MessageAsked, PositionAsked};
-ghost use Rattle.plan.specs.Open.{holds, enter_rules};
+ghost use Rattle.plan.specs.Messages.{records_of};
+ghost use Rattle.plan.specs.Open.{enter_rules};
 
 use super::OpenPlan;
-use crate::cycle::{LONGEST_CYCLE, cycle_with};
-use crate::record::Record;
-use crate::streams::push_streams;
+use crate::record::{Message, Record};
+use crate::schedule::Schedule;
 use bus::refusal::Refusal;
 use std::alloc::{AllocError, Global};
 
 const MOST_RECORDS: usize = 64;
-
-const MOST_STREAMS: usize = 128;
-
-// Where the message with the identifier stands.
-pub(super) fn position(records: &[Record], identifier: u64) -> Option<usize>
-    ensures { PositionAsked identifier records.now result }
-{
-    for (k, message) in records.iter().enumerate() {
-        if message.identifier == identifier {
-            return Some(k);
-        }
-    }
-    None
-}
-
-fn holds(records: &[Record], identifier: u64) -> bool
-    ensures { result ≡ holds identifier records.now }
-{
-    match position(records, identifier) {
-        Some(_) => true,
-        None => false,
-    }
-}
 
 impl OpenPlan {
     // A plan without messages. It takes all the memory that it will need.
@@ -44,46 +21,54 @@ impl OpenPlan {
         ensures empty { IfOk result (λ p. held p ≡ []) }
         ensures first { IfOk result (λ p. open_book (held p) ≡ first_book) }
     {
-        let records = Vec::with_capacity(heap, MOST_RECORDS)?;
-        let streams = Vec::with_capacity(heap, MOST_STREAMS)?;
-        Ok(OpenPlan {
-            records,
-            streams,
-            cycles: [1; 16],
-            reach: 0,
-        })
+        let messages = Vec::with_capacity(heap, MOST_RECORDS)?;
+        let schedule = Schedule::new(heap)?;
+        Ok(OpenPlan { messages, schedule })
     }
 
     // How many messages are held.
     pub fn len(&self) -> usize
         ensures { result ≡ length (held self.now) }
     {
-        self.records.len()
+        self.messages.len()
+    }
+
+    // The messages held, in the order in which they were entered.
+    pub fn messages(&self) -> &[Message]
+        ensures { records_of result.now ≡ held self.now }
+    {
+        &self.messages
     }
 
     // The message at a position, counted from 0 in the order in which they were entered.
     pub fn message(&self, position: usize) -> Option<Record>
         ensures { MessageAsked (held self.now) position result }
     {
-        self.records.get(position).copied()
+        self.messages.get(position).map(|message| message.record)
+    }
+
+    // Where the message with the identifier stands.
+    pub fn position(&self, identifier: u64) -> Option<usize>
+        ensures { PositionAsked identifier (held self.now) result }
+    {
+        self.messages
+            .iter()
+            .position(|message| message.record.identifier == identifier)
     }
 
     // The cycle that the message's node will have, unless the message is refused.
-    fn judge(&self, message: Record) -> Result<u32, Refusal>
-        ensures { result ≡ answer (enter_rules message (held self.now)) (cycle_of message.node (held self.now ++ message ∷ [])) }
+    fn judge(&self, message: &Message) -> Result<u32, Refusal>
+        ensures { result ≡ answer (enter_rules message.now.record (held self.now)) (cycle_of message.now.record.node (held self.now ++ message.now.record ∷ [])) }
     {
-        message.check()?;
-        if holds(&self.records, message.identifier) {
+        if self.position(message.record.identifier).is_some() {
             return Err(Refusal::Held);
         }
         if self.len() >= MOST_RECORDS {
             return Err(Refusal::Full);
         }
-        let cycle = cycle_with(self.cycles[message.node as usize], message.kind);
-        if cycle > LONGEST_CYCLE {
-            return Err(Refusal::Cycle);
-        }
-        Ok(cycle as u32)
+        message
+            .cycle_with(self.schedule.cycles[message.node() as usize])
+            .ok_or(Refusal::Cycle)
     }
 
     // Takes a message in, after all others, and says how many are held then.
@@ -92,11 +77,10 @@ impl OpenPlan {
         ensures step { Step (open_book (held self.old)) (Enter message) (Some result) (open_book (held self.new)) }
         ensures cycles { LeastCycles }
     {
-        let cycle = self.judge(message)?;
-        self.records.push_reserved(message);
-        push_streams(&mut self.streams, message);
-        self.cycles[message.node as usize] = cycle;
-        self.reach = self.reach.max(message.jitter as u32);
+        let checked = message.check()?;
+        let cycle = self.judge(&checked)?;
+        self.messages.push_reserved(checked);
+        self.schedule.add(&checked, cycle);
         Ok(self.len())
     }
 }

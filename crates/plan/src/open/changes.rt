@@ -6,10 +6,7 @@ ghost use Rattle.plan.specs.Held.{held};
 ghost use Rattle.plan.specs.Open.{alter_rules, altered, strike_rules, struck};
 
 use super::OpenPlan;
-use super::calls::position;
-use crate::cycle::cycles_of;
 use crate::record::Record;
-use crate::streams::{largest_jitter, list_streams};
 use bus::refusal::Refusal;
 
 impl OpenPlan {
@@ -18,19 +15,14 @@ impl OpenPlan {
         ensures done { Done (alter_rules message (held self.old)) (held self.old) (altered message (held self.old)) result (held self.new) }
         ensures step { Step (open_book (held self.old)) (Alter message) (Some result) (open_book (held self.new)) }
     {
-        message.check()?;
-        let Some(at) = position(&self.records, message.identifier) else {
-            return Err(Refusal::NotHeld);
-        };
-        let former = self.records[at];
-        self.records[at] = message;
-        let Some(cycles) = cycles_of(&self.records) else {
-            self.records[at] = former;
-            return Err(Refusal::Cycle);
-        };
-        self.cycles = cycles;
-        list_streams(&mut self.streams, &self.records);
-        self.reach = largest_jitter(&self.records);
+        let checked = message.check()?;
+        let at = self.position(message.identifier).ok_or(Refusal::NotHeld)?;
+        let former = self.messages[at];
+        self.messages[at] = checked;
+        if let Err(refusal) = self.schedule.work_out(&self.messages) {
+            self.messages[at] = former;
+            return Err(refusal);
+        }
         Ok(self.len())
     }
 
@@ -39,14 +31,10 @@ impl OpenPlan {
         ensures done { Done (strike_rules identifier (held self.old)) (held self.old) (struck identifier (held self.old)) result (held self.new) }
         ensures step { Step (open_book (held self.old)) (Strike identifier) (Some result) (open_book (held self.new)) }
     {
-        let Some(at) = position(&self.records, identifier) else {
-            return Err(Refusal::NotHeld);
-        };
+        let at = self.position(identifier).ok_or(Refusal::NotHeld)?;
         let held = self.len();
-        let _ = self.records.remove(at);
-        self.cycles = cycles_of(&self.records).unwrap();
-        list_streams(&mut self.streams, &self.records);
-        self.reach = largest_jitter(&self.records);
+        let _ = self.messages.remove(at);
+        self.schedule.work_out(&self.messages).unwrap();
         Ok(held - 1)
     }
 }

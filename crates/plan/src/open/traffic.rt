@@ -12,8 +12,6 @@ use crate::streams::{Stream, soonest_turn};
 use bus::refusal::Refusal;
 use bus::traffic::Traffic;
 
-const LARGEST_NODE: u32 = 15;
-
 const LONGEST_SPAN: u64 = 20971520;
 
 impl OpenPlan {
@@ -21,10 +19,11 @@ impl OpenPlan {
     fn stream(&self, number: u32) -> Result<Stream, Refusal>
         ensures { Asked (number < length (streams_of (held self.now))) (stream_at (held self.now) number) result }
     {
-        match self.streams.get(number as usize) {
-            Some(stream) => Ok(*stream),
-            None => Err(Refusal::Question),
-        }
+        self.schedule
+            .streams
+            .get(number as usize)
+            .copied()
+            .ok_or(Refusal::Question)
     }
 
     // The stream of a number, where the phase is one of its node.
@@ -32,7 +31,7 @@ impl OpenPlan {
         ensures { Asked ((number < length (streams_of (held self.now))) × (phase < cycle_of (stream_at (held self.now) number).node (held self.now))) (stream_at (held self.now) number) result }
     {
         let stream = self.stream(number)?;
-        if phase >= self.cycles[stream.node as usize] {
+        if phase >= self.schedule.cycles[stream.node as usize] {
             return Err(Refusal::Question);
         }
         Ok(stream)
@@ -47,11 +46,11 @@ impl Traffic for OpenPlan {
     ghost laws = { λ t. laws_of (held t) (sound t) };
 
     fn streams(&self) -> u32 {
-        self.streams.len() as u32
+        self.schedule.streams.len() as u32
     }
 
     fn reach(&self) -> u32 {
-        self.reach
+        self.schedule.reach
     }
 
     fn node(&self, stream: u32) -> Result<u32, Refusal> {
@@ -67,10 +66,11 @@ impl Traffic for OpenPlan {
     }
 
     fn cycle(&self, node: u32) -> Result<u32, Refusal> {
-        if node > LARGEST_NODE {
-            return Err(Refusal::Question);
-        }
-        Ok(self.cycles[node as usize])
+        self.schedule
+            .cycles
+            .get(node as usize)
+            .copied()
+            .ok_or(Refusal::Question)
     }
 
     fn place(&self, stream: u32, phase: u32, instance: u32) -> Result<i64, Refusal> {
@@ -80,17 +80,14 @@ impl Traffic for OpenPlan {
 
     fn count(&self, stream: u32, phase: u32, window: u32) -> Result<u32, Refusal> {
         let asked = self.stream_at(stream, phase)?;
-        if window as u64 + self.reach as u64 > LONGEST_SPAN {
+        if u64::from(window) + u64::from(self.schedule.reach) > LONGEST_SPAN {
             return Err(Refusal::Question);
         }
         asked.timing.count(asked.jitter, phase, window)
     }
 
     fn turns(&self, node: u32, phase: u32) -> Result<bool, Refusal> {
-        match self.next_turn(node, phase)? {
-            Some(turn) => Ok(turn == phase),
-            None => Ok(false),
-        }
+        Ok(self.next_turn(node, phase)? == Some(phase))
     }
 
     fn next_turn(&self, node: u32, phase: u32) -> Result<Option<u32>, Refusal> {
@@ -98,11 +95,7 @@ impl Traffic for OpenPlan {
         if phase >= cycle {
             return Err(Refusal::Question);
         }
-        let turn = soonest_turn(&self.streams, node, phase, cycle)?;
-        if turn < cycle {
-            Ok(Some(turn))
-        } else {
-            Ok(None)
-        }
+        let turn = soonest_turn(&self.schedule.streams, node, phase, cycle)?;
+        Ok((turn < cycle).then_some(turn))
     }
 }

@@ -1,25 +1,16 @@
-use Rattle.std.proofs.Common.{◌≡◌, ℕ, max, sym, ap, ◌∙◌, subst, arith}
-use Rattle.std.proofs.lemmas.List.{take_all}
-use Rattle.std.proofs.lemmas.List.Sums.{fold_more}
+use Rattle.std.proofs.Common.{ℕ, max, sym, ap, ◌∙◌, rules}
+use Rattle.std.specs.Option.{unwrap_or}
+use Rattle.std.proofs.lemmas.Iterator.{YieldsList-from_slice, YieldsList-from_map}
+use Rattle.std.proofs.lemmas.Iterator.Consumers.{reduce_from_yields_List}
+use Rattle.std.proofs.lemmas.List.Folds.{fold-map, max_of_map}
+use Rattle.plan.specs.declared.record.Message.{Message}
 use Rattle.plan.specs.declared.record.Record.{Record}
-use Rattle.plan.specs.Held.{no_record, record_at}
-use Rattle.plan.specs.Streams.{reach_of}
-use Rattle.plan.specs.Kept.{within_at}
-use Rattle.plan.specs.Limited.{fits}
 use Rattle.plan.proofs.streams.largest_jitter.Goals as goal
 
-pub overflow_cast-message : goal.overflow_cast-message
-overflow_cast-message c =
-    let rs = c.args.records.now in
-    let k = c.loop-message.message-index in
-    omega (arith, (fits (record_at rs k) (within_at rs c.requires k c.loop-message-test.true)).jitter)
-
-pub loop-message-preserved : goal.loop-message-preserved
-loop-message-preserved c =
-    let rs = c.args.records.now in
-    let k = c.loop-message.message-index in
-    let more = fold_more (λ (m : ℕ) (r : Record). max m r.jitter) 0 rs k no_record c.loop-message-test.true in
-    c.max-largest.ensures ∙ ap (λ m. max m (record_at rs k).jitter) c.loop-message.invariant ∙ sym more
-
 pub returns : goal.returns
-returns c = subst (λ rs. c.loop-message.largest ≡ reach_of rs) (take_all c.loop-message.message-index c.args.records.now (omega arith)) c.loop-message.invariant
+returns c =
+    let ms = c.args.messages.now in
+    c.unwrap_or.ensures
+    ∙ ap (λ o. unwrap_or o 0) (reduce_from_yields_List _ c.map.result _ c.max.ensures.ran (YieldsList-from_map _ (λ (m : Message). m.record.jitter) (YieldsList-from_slice ms cc) c.map.ensures.closure (λ x r q k. search rules)))
+    ∙ max_of_map (λ (m : Message). m.record.jitter) ms
+    ∙ sym (fold-map (λ (m : ℕ) (r : Record). max m r.jitter) (λ (m : Message). m.record) 0 ms)

@@ -1,6 +1,6 @@
 use Rattle.plan.specs.Held.{held}
 use Rattle.plan.specs.Plans.{sound}
-use Rattle.plan.proofs.Found.{found_node, phase_past, phase_inside}
+use Rattle.plan.proofs.Found.{found_node, phase_past}
 use Rattle.plan.proofs.open.OpenPlan.stream_at.Goals as goal
 
 pub bounds-self-stream : goal.bounds-self-stream
@@ -11,11 +11,4 @@ returns-then-phase-self c =
     let rs = held c.args.self.now in
     let s = sound c.args.self.now in
     let below = found_node rs c.args.number s c.in_ok-stream.stream c.in_ok-stream.ensures in
-    phase_past rs c.args.number s c.in_ok-stream.stream c.in_ok-stream.ensures c.args.phase _ (c.args.self.now.cycled c.in_ok-stream.stream.node below) c.if-phase-self.true
-
-pub returns : goal.returns
-returns c =
-    let rs = held c.args.self.now in
-    let s = sound c.args.self.now in
-    let below = found_node rs c.args.number s c.in_ok-stream.stream c.in_ok-stream.ensures in
-    phase_inside rs c.args.number s c.in_ok-stream.stream c.in_ok-stream.ensures c.args.phase _ (c.args.self.now.cycled c.in_ok-stream.stream.node below) c.if-phase-self.false
+    phase_past rs c.args.number s c.in_ok-stream.stream c.in_ok-stream.ensures c.args.phase _ (c.args.self.now.works.cycled c.in_ok-stream.stream.node below) c.if-phase-self.true

@@ -7,4 +7,4 @@ use Rattle.plan.proofs.open.traffic.OpenPlanTraffic.count.Goals as goal
 pub returns : goal.returns
 returns c =
     count_found (held c.args.self.now) c.args.stream (sound c.args.self.now) c.in_ok-asked.asked c.args.phase c.in_ok-asked.ensures c.args.window c.count.result
-    (omega (arith, c.if-window-self-gt-LONGEST_SPAN.false, c.args.self.now.reached)) c.count.ensures
+    (omega (arith, c.args.self.now.works.reached)) c.count.ensures

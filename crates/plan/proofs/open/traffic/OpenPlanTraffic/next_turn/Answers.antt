@@ -1,4 +1,4 @@
-use Rattle.std.proofs.Common.{sym, ◌∙◌, subst, arith}
+use Rattle.std.proofs.Common.{sym, ◌∙◌, subst}
 use Rattle.std.specs.List.{AllByRecursion}
 use Rattle.std.proofs.ByRecursion.{All-weaker}
 use Rattle.clock.specs.Timing.{Paced}
@@ -8,8 +8,7 @@ use Rattle.plan.specs.Carried.{Known, all_known}
 use Rattle.plan.specs.Plans.{sound}
 use Rattle.plan.proofs.open.traffic.OpenPlanTraffic.next_turn.Goals as goal
 
-pub soonest_turn-requires : goal.soonest_turn-requires
-soonest_turn-requires c =
-    let rs = held c.args.self.now in
-    let all = All-weaker (Known rs) (λ s. Paced s.timing) (λ s k. k.paced) (streams_of rs) (all_known rs (sound c.args.self.now)) in
-    record { paced = subst (AllByRecursion (λ s. Paced s.timing)) (sym (c.deref.ensures.value ∙ c.args.self.now.carried)) all; before = omega (arith, c.if-phase-cycle.false) }
+pub soonest_turn-requires-clause-paced : goal.soonest_turn-requires-clause-paced
+soonest_turn-requires-clause-paced c =
+    let p = c.args.self.now in
+    subst (AllByRecursion (λ s. Paced s.timing)) (sym (c.deref.ensures.value ∙ p.works.carried)) (All-weaker (Known (held p)) (λ s. Paced s.timing) (λ s k. k.paced) (streams_of (held p)) (all_known (held p) (sound p)))
