@@ -1,28 +1,31 @@
--- A memo keeps true pairs. Assumes nothing.
-use Rattle.std.proofs.Common.{◌≡◌, ℕ, ◌<◌, length, set, replicate, sym, ◌∙◌, subst, inl, inr, arith, length-set, get_or-set_other, get_or-set_same}
+-- Slots keep true pairs. Assumes nothing.
+use Rattle.std.proofs.Common.{◌≡◌, ℕ, ◌<◌, Some, None, Option, List, length, get_or, set, replicate, sym, ◌∙◌, inl, inr, arith, length-set, get_or-set_other, get_or-set_same}
 use lib.ListN.{length-replicate, get_or-replicate}
 use Rattle.std.proofs.lemmas.Bool.{cases_eq}
 use Rattle.bus.specs.Meaning.{Meaning}
 use Rattle.bus.specs.Bound.{others}
-use Rattle.engine.specs.declared.memo.Kept.{Kept}
-use Rattle.engine.specs.declared.memo.Memo.{Memo}
-use Rattle.engine.specs.Memo.{Keeps, none_kept}
+use Rattle.engine.specs.declared.kept.Kept.{Kept}
+use Rattle.engine.specs.Kept.{Keeps}
 
-abbrev pub TrueOf : Meaning → ℕ → Kept → Type 0
-TrueOf m i kept = 0 < kept.window → kept.sent ≡ others m i kept.window
+module _ (m : Meaning) (i : ℕ) where
+  -- where nothing is kept
+  pub keeps_none : Keeps m i (replicate 256 None)
+  keeps_none = record {
+    long = length-replicate {A = Option Kept} 256 None;
+    true_of = λ k past kept l is. let both : None ≡ Some kept = sym (get_or-replicate {A = Option Kept} 256 k None past l) ∙ is in cc;
+  }
 
--- nothing kept is true of any stream
-pub keeps_none : (m : Meaning) (i : ℕ) → Keeps m i (record { slots = replicate 256 none_kept })
-keeps_none m i = record { long = length-replicate 256 none_kept; true_of = λ k l. subst (TrueOf m i) (sym (get_or-replicate 256 k none_kept none_kept l)) (λ some. absurd (omega arith)) }
-
-module _ (m : Meaning) (i : ℕ) (kept : Kept) (is : TrueOf m i kept) where
-  pub keeps_more : (memo : Memo) (slot : ℕ) → slot < 256 → Keeps m i memo → Keeps m i (record { slots = set memo.slots slot kept })
-  keeps_more memo slot inside so =
-      let room : slot < length memo.slots = omega (arith, so.long) in
+  pub keeps_more : (slots : List (Option Kept)) (slot : ℕ) (kept : Kept) → slot < 256 → kept.sent ≡ others m i kept.window → Keeps m i slots → Keeps m i (set slots slot (Some kept))
+  keeps_more slots slot kept inside true so =
+      let room : slot < length slots = omega (arith, so.long) in
       record {
         long = length-set _ _ _ ∙ so.long;
-        true_of = λ k l. elim (cases_eq k slot) [
-          | inl same ↦ rw (same, get_or-set_same) is
-          | inr other ↦ rw get_or-set_other (so.true_of k l)
+        true_of = λ k past other l is. elim (cases_eq k slot) [
+          | inl same ↦
+              let there : get_or (set slots slot (Some kept)) slot past ≡ Some kept = rw get_or-set_same in
+              let both : Some kept ≡ Some other = sym there ∙ rw same at is in
+              let e : kept ≡ other = cc in
+              rw (sym e) true
+          | inr apart ↦ so.true_of k past other l (rw get_or-set_other at is)
         ];
       }

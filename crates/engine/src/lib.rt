@@ -2,9 +2,10 @@
 #![tactic(auto)]
 
 pub mod bound;
-mod demand;
 mod group;
-mod memo;
-mod phase;
+mod kept;
 mod profile;
+mod search;
+mod stream;
+mod turn;
 mod window;
