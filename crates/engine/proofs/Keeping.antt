@@ -4,7 +4,7 @@ use lib.ListN.{length-replicate, get_or-replicate}
 use Rattle.std.proofs.lemmas.Bool.{cases_eq}
 use Rattle.bus.specs.Meaning.{Meaning}
 use Rattle.bus.specs.Bound.{others}
-use Rattle.engine.specs.declared.kept.Kept.{Kept}
+use Rattle.engine.specs.declared.search.Kept.{Kept}
 use Rattle.engine.specs.Kept.{Keeps}
 
 module _ (m : Meaning) (i : ℕ) where

@@ -2,7 +2,7 @@
 use Rattle.std.specs.Prelude.{◌≡◌, ℕ, ◌<◌, Some, Option, List, length, slice_index_or}
 use Rattle.bus.specs.Meaning.{Meaning}
 use Rattle.bus.specs.Bound.{others}
-use Rattle.engine.specs.declared.kept.Kept.{Kept}
+use Rattle.engine.specs.declared.search.Kept.{Kept}
 
 -- every slot that keeps a window has what the other nodes send in it
 pub record Keeps (m : Meaning) (i : ℕ) (slots : List (Option Kept)) : Type 0 where

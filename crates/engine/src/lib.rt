@@ -3,7 +3,6 @@
 
 pub mod bound;
 mod group;
-mod kept;
 mod profile;
 mod search;
 mod stream;

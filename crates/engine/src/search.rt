@@ -6,11 +6,21 @@ ghost use Rattle.engine.specs.Bounded.{Worst};
 ghost use Rattle.engine.specs.Kept.{Keeps};
 ghost use Rattle.engine.specs.Window.{Settled, Asks};
 
-use crate::kept::{Kept, NOTHING, SLOTS};
 use crate::profile::Profile;
 use crate::window::Window;
 use bus::refusal::Refusal;
 use bus::traffic::Traffic;
+
+const SLOTS: usize = 256;
+
+// A window and what the other nodes may send in it.
+#[derive(Clone, Copy)]
+struct Kept {
+    window: u32,
+    sent: u64,
+}
+
+const NOTHING: [Option<Kept>; SLOTS] = [None; SLOTS];
 
 // What the other nodes send depends on nothing but the window, so it is kept of windows that were worked out before. A window
 // has one slot, which keeps the last that came to it.
@@ -33,7 +43,7 @@ impl<'a, T: Traffic> Search<'a, T> {
 
     // What the other nodes may send in the window, from its slot where that has it.
     fn recall(&mut self, window: Window) -> Result<u64, Refusal>
-        ensures value { result ≡ Ok (others (T.meaning self.old.profile.stream.traffic.now) self.old.profile.stream.number window.bits) }
+        ensures value { let s = self.old.profile.stream in result ≡ Ok (others (T.meaning s.traffic.now) s.number window.bits) }
         ensures same { self.new.profile ≡ self.old.profile }
     {
         let slot = window.bits as usize % SLOTS;
@@ -52,8 +62,8 @@ impl<'a, T: Traffic> Search<'a, T> {
 
     // What may be sent in the window before the instance of the stream.
     fn need(&mut self, phase: u32, instance: u32, window: Window) -> Result<u64, Refusal>
-        requires { Asks (T.meaning self.old.profile.stream.traffic.now) self.old.profile.stream.number phase instance }
-        ensures value { result ≡ Ok (need (T.meaning self.old.profile.stream.traffic.now) self.old.profile.stream.number phase instance window.bits) }
+        requires { let s = self.old.profile.stream in Asks (T.meaning s.traffic.now) s.number phase instance }
+        ensures value { let s = self.old.profile.stream in result ≡ Ok (need (T.meaning s.traffic.now) s.number phase instance window.bits) }
         ensures same { self.new.profile ≡ self.old.profile }
     {
         let others = self.recall(window)?;
@@ -69,9 +79,9 @@ impl<'a, T: Traffic> Search<'a, T> {
         instance: u32,
         start: Window,
     ) -> Result<Option<Window>, Refusal>
-        requires asks { Asks (T.meaning self.old.profile.stream.traffic.now) self.old.profile.stream.number phase instance }
-        requires starts { Starts (T.meaning self.old.profile.stream.traffic.now) self.old.profile.stream.number phase instance start.bits }
-        ensures window { Settled (T.meaning self.old.profile.stream.traffic.now) self.old.profile.stream.number phase instance result }
+        requires asks { let s = self.old.profile.stream in Asks (T.meaning s.traffic.now) s.number phase instance }
+        requires starts { let s = self.old.profile.stream in Starts (T.meaning s.traffic.now) s.number phase instance start.bits }
+        ensures window { let s = self.old.profile.stream in Settled (T.meaning s.traffic.now) s.number phase instance result }
         ensures same { self.new.profile ≡ self.old.profile }
     {
         let mut window = start;
@@ -90,8 +100,8 @@ impl<'a, T: Traffic> Search<'a, T> {
     // The largest response of the instances that are listed at the phase, or None where a reached one never settles. Each
     // starts from the window of the one before.
     pub(crate) fn worst(&mut self, phase: u32) -> Result<Option<u32>, Refusal>
-        requires { phase < (T.meaning self.old.profile.stream.traffic.now).cycle ((T.meaning self.old.profile.stream.traffic.now).node self.old.profile.stream.number) }
-        ensures worst { Worst (T.meaning self.old.profile.stream.traffic.now) self.old.profile.stream.number phase result }
+        requires { let s = self.old.profile.stream in phase < (T.meaning s.traffic.now).cycle ((T.meaning s.traffic.now).node s.number) }
+        ensures worst { let s = self.old.profile.stream in Worst (T.meaning s.traffic.now) s.number phase result }
         ensures same { self.new.profile ≡ self.old.profile }
     {
         let mut most = 0;

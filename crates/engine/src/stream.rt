@@ -2,13 +2,15 @@
 ghost use Rattle.std.specs.Prelude.{◌≡◌, ◌+◌, ◌<◌, ◌≤◌, pos, ◌-ℤ◌, neg_ℤ, ◌≤ℤ◌, Ok, MatchResult};
 ghost use Rattle.bus.specs.declared.refusal.Refusal.TheVariants.{Question};
 ghost use Rattle.bus.specs.Bound.{blocking};
-ghost use Rattle.engine.specs.Group.{Gathers, rival};
+ghost use Rattle.engine.specs.Group.{Gathers, Groups, rival};
 
 use crate::group::Group;
 use crate::window::Window;
 use arrayvec::ArrayVec;
 use bus::refusal::Refusal;
 use bus::traffic::Traffic;
+
+pub(crate) const NODES: usize = 16;
 
 // A stream of a traffic, by its number, with what is read of it once.
 #[derive(Drop)]
@@ -65,7 +67,7 @@ impl<'a, T: Traffic> Stream<'a, T> {
     }
 
     // The streams of the node that can go before the stream's frames.
-    pub(crate) fn gather(&self, node: u32) -> Result<Group, Refusal>
+    fn gather(&self, node: u32) -> Result<Group, Refusal>
         ensures { MatchResult result (Gathers (T.meaning self.now.traffic.now) self.now.number node) (λ _. ⊥) }
     {
         let mut streams = ArrayVec::new();
@@ -75,6 +77,17 @@ impl<'a, T: Traffic> Stream<'a, T> {
             }
         }
         Ok(Group { node, streams })
+    }
+
+    // Those of each node.
+    pub(crate) fn groups(&self) -> Result<ArrayVec<Group, NODES>, Refusal>
+        ensures { MatchResult result (λ groups. Groups (T.meaning self.now.traffic.now) self.now.number 16 groups.items) (λ _. ⊥) }
+    {
+        let mut groups = ArrayVec::new();
+        for node in 0..NODES as u32 {
+            groups.push(self.gather(node)?);
+        }
+        Ok(groups)
     }
 
     // The time from the arrival of an instance at its place to the end of its frame after the window.
