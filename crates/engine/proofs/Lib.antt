@@ -1,4 +1,5 @@
 pub mod Gathering
 pub mod Sending
 pub mod Rivals
+pub mod Nodes
 pub mod Keeping

@@ -1,6 +1,6 @@
 -- The groups of a stream's rivals send just its demands. Assumes nothing.
 use Rattle.std.proofs.Common.{◌≡◌, ℕ, ◌<◌, Bool, true, false, not, ◌&&◌, eqb, ltb, leb, sym, refl, ap, ◌∙◌, arith}
-use Rattle.std.proofs.lemmas.Bool.{eqb-true, ne_eqb, eq-eqb}
+use Rattle.std.proofs.lemmas.Bool.{eqb-true}
 use Rattle.std.proofs.lemmas.Bool.Decides.{nat_tests}
 use Rattle.bus.specs.Sums.{only}
 use Rattle.bus.specs.Meaning.{Meaning, Laws}
@@ -32,17 +32,6 @@ module _ (m : Meaning) (laws : Laws m) (i n : ℕ) (known : i < m.streams) (othe
   pub heaviest_is : (g : Group) (w : ℕ) → Gathers m i n g → heaviest_sent m g w ≡ heaviest m i n w
   heaviest_is g w gathers =
       rw gathers.is_node (largest_same (m.cycle n) (λ p. sent m g p w) (λ p. demand m i n p w) (λ p l. sent_demand g p w gathers))
-
--- what the group of node n adds to what the other nodes send
-module _ (m : Meaning) (laws : Laws m) (i n : ℕ) (known : i < m.streams) (g : Group) (w : ℕ) (gathers : Gathers m i n g) where
-  pub adds_other : (g.node ≡ m.node i → ⊥) → heaviest_sent m g w ≡ only (not (eqb n (m.node i))) (heaviest m i n w)
-  adds_other apart =
-      let other : n ≡ m.node i → ⊥ = λ e. apart (gathers.is_node ∙ e) in
-      let away : eqb n (m.node i) ≡ false = ne_eqb n (m.node i) other in
-      rw away (heaviest_is m laws i n known other g w gathers)
-
-  pub adds_own : g.node ≡ m.node i → 0 ≡ only (not (eqb n (m.node i))) (heaviest m i n w)
-  adds_own home = let is : eqb n (m.node i) ≡ true = eq-eqb n (m.node i) (sym gathers.is_node ∙ home) in rw is refl
 
 -- and those of its own node
 pub sent_own : (m : Meaning) (i p w : ℕ) (g : Group) → Gathers m i (m.node i) g → sent m g p w ≡ own m i p w

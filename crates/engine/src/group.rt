@@ -51,9 +51,6 @@ impl Group {
         requires { (Members (T.meaning traffic.now) self.now) × (self.now.node < 16) }
         ensures { result ≡ Ok (heaviest_sent (T.meaning traffic.now) self.now window.bits) }
     {
-        if self.streams.is_empty() {
-            return Ok(0);
-        }
         let mut most = self.demand(traffic, 0, window)?;
         let mut from = 1;
         while let Some(turn) = turn_from(traffic, self.node, from)? {

@@ -2,7 +2,7 @@
 ghost use Rattle.std.specs.Prelude.{◌≡◌, ◌<◌, Ok, MatchResult};
 ghost use Rattle.bus.specs.declared.refusal.Refusal.TheVariants.{Question};
 ghost use Rattle.bus.specs.Bound.{blocking as most_blocking, others, own};
-ghost use Rattle.engine.specs.Group.{Groups};
+ghost use Rattle.engine.specs.Group.{Gathers, Elsewhere};
 
 use crate::group::Group;
 use crate::stream::{NODES, Stream};
@@ -11,14 +11,17 @@ use arrayvec::ArrayVec;
 use bus::refusal::Refusal;
 use bus::traffic::Traffic;
 
-// `groups` has for each node the streams that can go before the stream's frames.
+// `beside` has the streams of its own node that can go before the stream's frames, `elsewhere` those of each other node that
+// has some.
 #[derive(Drop)]
 pub(crate) struct Profile<'a, T: Traffic> {
     pub(crate) stream: Stream<'a, T>,
     pub(crate) blocking: u32,
-    groups: ArrayVec<Group, NODES>,
+    beside: Group,
+    elsewhere: ArrayVec<Group, NODES>,
     ghost blocks: { blocking ≡ most_blocking (T.meaning stream.traffic.now) stream.number },
-    ghost gathered: { Groups (T.meaning stream.traffic.now) stream.number 16 groups.items },
+    ghost own_group: { Gathers (T.meaning stream.traffic.now) stream.number stream.node beside },
+    ghost other_groups: { Elsewhere (T.meaning stream.traffic.now) stream.number 16 elsewhere.items },
 }
 
 impl<'a, T: Traffic> Profile<'a, T> {
@@ -27,11 +30,13 @@ impl<'a, T: Traffic> Profile<'a, T> {
     {
         let stream = Stream::read(traffic, number)?;
         let blocking = stream.blocking()?;
-        let groups = stream.groups()?;
+        let beside = stream.gather(stream.node)?;
+        let elsewhere = stream.elsewhere()?;
         Ok(Profile {
             stream,
             blocking,
-            groups,
+            beside,
+            elsewhere,
         })
     }
 
@@ -40,10 +45,8 @@ impl<'a, T: Traffic> Profile<'a, T> {
         ensures { let s = self.now.stream in result ≡ Ok (others (T.meaning s.traffic.now) s.number window.bits) }
     {
         let mut sum = 0;
-        for group in self.groups.as_slice() {
-            if group.node != self.stream.node {
-                sum += group.heaviest(self.stream.traffic, window)?;
-            }
+        for group in self.elsewhere.as_slice() {
+            sum += group.heaviest(self.stream.traffic, window)?;
         }
         Ok(sum)
     }
@@ -53,6 +56,6 @@ impl<'a, T: Traffic> Profile<'a, T> {
         requires { let s = self.now.stream in phase < (T.meaning s.traffic.now).cycle ((T.meaning s.traffic.now).node s.number) }
         ensures { let s = self.now.stream in result ≡ Ok (own (T.meaning s.traffic.now) s.number phase window.bits) }
     {
-        self.groups[self.stream.node as usize].demand(self.stream.traffic, phase, window)
+        self.beside.demand(self.stream.traffic, phase, window)
     }
 }

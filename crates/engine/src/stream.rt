@@ -2,7 +2,7 @@
 ghost use Rattle.std.specs.Prelude.{◌≡◌, ◌+◌, ◌<◌, ◌≤◌, pos, ◌-ℤ◌, neg_ℤ, ◌≤ℤ◌, Ok, MatchResult};
 ghost use Rattle.bus.specs.declared.refusal.Refusal.TheVariants.{Question};
 ghost use Rattle.bus.specs.Bound.{blocking};
-ghost use Rattle.engine.specs.Group.{Gathers, Groups, rival};
+ghost use Rattle.engine.specs.Group.{Gathers, Elsewhere, rival};
 
 use crate::group::Group;
 use crate::window::Window;
@@ -67,7 +67,7 @@ impl<'a, T: Traffic> Stream<'a, T> {
     }
 
     // The streams of the node that can go before the stream's frames.
-    fn gather(&self, node: u32) -> Result<Group, Refusal>
+    pub(crate) fn gather(&self, node: u32) -> Result<Group, Refusal>
         ensures { MatchResult result (Gathers (T.meaning self.now.traffic.now) self.now.number node) (λ _. ⊥) }
     {
         let mut streams = ArrayVec::new();
@@ -79,13 +79,18 @@ impl<'a, T: Traffic> Stream<'a, T> {
         Ok(Group { node, streams })
     }
 
-    // Those of each node.
-    pub(crate) fn groups(&self) -> Result<ArrayVec<Group, NODES>, Refusal>
-        ensures { MatchResult result (λ groups. Groups (T.meaning self.now.traffic.now) self.now.number 16 groups.items) (λ _. ⊥) }
+    // The groups of the other nodes that have such streams.
+    pub(crate) fn elsewhere(&self) -> Result<ArrayVec<Group, NODES>, Refusal>
+        ensures { MatchResult result (λ groups. Elsewhere (T.meaning self.now.traffic.now) self.now.number 16 groups.items) (λ _. ⊥) }
     {
         let mut groups = ArrayVec::new();
         for node in 0..NODES as u32 {
-            groups.push(self.gather(node)?);
+            if node != self.node {
+                let group = self.gather(node)?;
+                if !group.streams.is_empty() {
+                    groups.push(group);
+                }
+            }
         }
         Ok(groups)
     }

@@ -1,9 +1,8 @@
 use Rattle.std.proofs.Common.{◌≡◌, max, Some, None, Ok, sym, ap, ◌∙◌, arith}
-use Rattle.std.proofs.lemmas.Bool.{eqb-true}
 use Rattle.bus.specs.Asked.{FirstTurn}
 use Rattle.bus.proofs.Climb.{climb_start, climb_on, climb_end}
 use Rattle.engine.specs.Group.{sent}
-use Rattle.engine.proofs.Sending.{sent_rises, heaviest_none}
+use Rattle.engine.proofs.Sending.{sent_rises}
 use Rattle.engine.proofs.group.Group.heaviest.Given as given
 use Rattle.engine.proofs.group.Group.heaviest.Goals as goal
 use Rattle.engine.proofs.group.Group.heaviest.Goals.{In-Some}
@@ -39,8 +38,3 @@ returns g c =
     let group = c.args.self.now in
     let none : FirstTurn m group.node c.loop-turn.from None = rw c.in_default.is at c.in_ok-turn.ensures in
     ap Ok (climb_end m (g.met.T.Traffic.limits c.args.traffic.now) (g.met.T.Traffic.laws c.args.traffic.now) group.node (λ p. sent m group p c.args.window.bits) (sent_rises m group c.requires.0 c.args.window.bits) _ _ c.loop-turn.invariant none)
-
-pub returns-then-is_empty : goal.returns-then-is_empty
-returns-then-is_empty g c =
-    let m = g.T.Traffic.meaning c.args.traffic.now in
-    ap Ok (sym (heaviest_none m c.args.self.now c.requires.0 c.args.window.bits (eqb-true _ 0 (sym c.is_empty.ensures ∙ c.if-is_empty.true))))

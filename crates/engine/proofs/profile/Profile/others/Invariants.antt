@@ -1,10 +1,7 @@
-use Rattle.std.proofs.Common.{◌≡◌, not, eqb}
-use Rattle.bus.specs.Sums.{sum_below, only}
-use Rattle.bus.specs.Bound.{heaviest}
+use Rattle.std.proofs.Common.{◌≡◌, take}
+use Rattle.std.specs.Prelude.{sum_by}
+use Rattle.engine.specs.Group.{heaviest_sent}
 use Rattle.engine.proofs.profile.Profile.others.Given as goal
 
 abbrev pub invariant-loop-group : goal.invariant-loop-group
-invariant-loop-group g l =
-    let m = g.T.Traffic.meaning l.self.stream.traffic.now in
-    let i = l.self.stream.number in
-    l.sum ≡ sum_below l.group-index (λ n. only (not (eqb n (m.node i))) (heaviest m i n l.window.bits))
+invariant-loop-group g l = l.sum ≡ sum_by (λ group. heaviest_sent (g.T.Traffic.meaning l.self.stream.traffic.now) group l.window.bits) (take l.group-index l.self.elsewhere.items)
