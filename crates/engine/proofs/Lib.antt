@@ -2,4 +2,3 @@ pub mod Gathering
 pub mod Sending
 pub mod Rivals
 pub mod Nodes
-pub mod Keeping

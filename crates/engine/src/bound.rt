@@ -20,6 +20,7 @@ pub fn bound<T: Traffic>(traffic: &T, stream: u32) -> Result<Option<u32>, Refusa
         return Ok(None);
     };
     let mut most = first;
+    // The turning phases are gone through as for a group, but here each changes the search, and one may end it.
     let mut from = 1;
     while let Some(turn) = turn_from(traffic, node, from)? {
         let Some(here) = search.worst(turn)? else {

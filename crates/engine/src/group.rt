@@ -10,7 +10,7 @@ use bus::refusal::Refusal;
 use bus::traffic::Traffic;
 
 // A traffic has no more streams than this.
-pub(crate) const MOST_STREAMS: usize = 128;
+const MOST_STREAMS: usize = 128;
 
 // Some streams of a node.
 #[derive(Default, Drop)]
@@ -52,6 +52,7 @@ impl Group {
         ensures { result ≡ Ok (heaviest_sent (T.meaning traffic.now) self.now window.bits) }
     {
         let mut most = self.demand(traffic, 0, window)?;
+        // Each turning phase is looked for from the one before, so no range gives them.
         let mut from = 1;
         while let Some(turn) = turn_from(traffic, self.node, from)? {
             most = most.max(self.demand(traffic, turn, window)?);

@@ -4,6 +4,7 @@ ghost use Rattle.bus.specs.Bound.{need, others};
 ghost use Rattle.bus.specs.Search.{Starts};
 ghost use Rattle.engine.specs.Bounded.{Worst};
 ghost use Rattle.engine.specs.Kept.{Keeps};
+ghost use Rattle.std.proofs.Props.{props};
 ghost use Rattle.engine.specs.Window.{Settled, Asks};
 
 use crate::profile::Profile;
@@ -20,15 +21,13 @@ struct Kept {
     sent: u64,
 }
 
-const NOTHING: [Option<Kept>; SLOTS] = [None; SLOTS];
-
 // What the other nodes send depends on nothing but the window, so it is kept of windows that were worked out before. A window
 // has one slot, which keeps the last that came to it.
 #[derive(Drop)]
 pub(crate) struct Search<'a, T: Traffic> {
     pub(crate) profile: Profile<'a, T>,
     slots: [Option<Kept>; SLOTS],
-    ghost keeps: { Keeps (T.meaning profile.stream.traffic.now) profile.stream.number slots },
+    ghost keeps: { Keeps (T.meaning profile.stream.traffic.now) profile.stream.number slots } by { Prim.hlevel props },
 }
 
 impl<'a, T: Traffic> Search<'a, T> {
@@ -37,7 +36,7 @@ impl<'a, T: Traffic> Search<'a, T> {
     {
         Search {
             profile,
-            slots: NOTHING,
+            slots: [None; SLOTS],
         }
     }
 
@@ -106,6 +105,7 @@ impl<'a, T: Traffic> Search<'a, T> {
     {
         let mut most = 0;
         let mut start = Window::new(self.profile.blocking);
+        // Which instances are listed comes out on the way, so no range counts them.
         let mut instance = 1;
         while let Some(window) = self.settle(phase, instance, start)? {
             let stream = &self.profile.stream;

@@ -60,10 +60,11 @@ impl<'a, T: Traffic> Stream<'a, T> {
         requires { other < (T.meaning self.now.traffic.now).streams }
         ensures { result ≡ Ok (rival (T.meaning self.now.traffic.now) self.now.number node other) }
     {
-        if self.traffic.node(other)? != node || other == self.number {
-            return Ok(false);
-        }
-        Ok(self.traffic.identifier(other)? <= self.identifier)
+        Ok(
+            self.traffic.node(other)? == node
+                && other != self.number
+                && self.traffic.identifier(other)? <= self.identifier,
+        )
     }
 
     // The streams of the node that can go before the stream's frames.

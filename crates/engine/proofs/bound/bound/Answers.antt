@@ -1,4 +1,4 @@
-use Rattle.std.proofs.Common.{◌≡◌, ◌<◌, Some, None, ◌∙◌}
+use Rattle.std.proofs.Common.{◌≡◌, ◌<◌, Some, None}
 use Rattle.bus.specs.Asked.{FirstTurn}
 use Rattle.bus.proofs.Bounding.{bounding_start, bounding_on, bounding_end}
 use Rattle.bus.proofs.Delivering.{bounds_hold}

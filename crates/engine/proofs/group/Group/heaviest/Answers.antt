@@ -1,4 +1,4 @@
-use Rattle.std.proofs.Common.{◌≡◌, max, Some, None, Ok, sym, ap, ◌∙◌, arith}
+use Rattle.std.proofs.Common.{◌≡◌, max, Some, None, Ok, ap, arith}
 use Rattle.bus.specs.Asked.{FirstTurn}
 use Rattle.bus.proofs.Climb.{climb_start, climb_on, climb_end}
 use Rattle.engine.specs.Group.{sent}

@@ -2,7 +2,7 @@ use Rattle.std.proofs.Common.{◌≡◌, ◌+◌, pos, ◌-ℤ◌, ◌≤ℤ◌,
 use Rattle.std.proofs.lemmas.Int.{ints}
 use Rattle.bus.specs.Bound.{SettlingWindow}
 use Rattle.bus.proofs.Growing.{far}
-use Rattle.bus.proofs.Listing.{listing_start, listing_on, listing_end, listing_never}
+use Rattle.bus.proofs.Listing.{listing_on, listing_end, listing_never}
 use Rattle.bus.proofs.Loads.{blocking_at_most}
 use Rattle.bus.proofs.Windows.{settled_few}
 use Rattle.engine.proofs.search.Search.worst.Given as given
