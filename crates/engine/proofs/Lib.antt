@@ -1,4 +1,4 @@
 pub mod Gathering
 pub mod Sending
 pub mod Rivals
-pub mod Keeping
+pub mod Nodes

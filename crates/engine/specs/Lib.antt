@@ -1,5 +1,4 @@
 pub mod Group
-pub mod Profile
-pub mod Memo
+pub mod Kept
 pub mod Window
 pub mod Bounded

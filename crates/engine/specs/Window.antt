@@ -3,19 +3,17 @@ use Rattle.std.specs.Prelude.{ℕ, ◌<◌, ◌≤◌, Some, None, Ok, Err, Opti
 use Rattle.bus.specs.declared.refusal.Refusal.{Refusal}
 use Rattle.bus.specs.Meaning.{Meaning}
 use Rattle.bus.specs.Bound.{horizon, Settles, SettlingWindow}
-use Rattle.engine.specs.declared.profile.Profile.{Profile}
-use Rattle.engine.specs.Profile.{Profiles}
+use Rattle.engine.specs.declared.window.Window.{Window}
 
 module _ (m : Meaning) where
   -- a phase of the stream's node, and an instance that a traffic can be asked for
-  pub record Asks (p : Profile) (phase instance : ℕ) : Type 0 where
-    pub profiles : Profiles m p
-    pub is_phase : phase < m.cycle (m.node p.stream)
+  pub record Asks (i phase instance : ℕ) : Type 0 where
+    pub is_phase : phase < m.cycle (m.node i)
     pub counts : 1 ≤ instance
     pub few : instance ≤ 4194306
 
   -- the settling window, or that there is none
-  abbrev pub Settled : ℕ → ℕ → ℕ → Result (Option ℕ) Refusal → Type 0
-  Settled i p q (Ok (Some w)) = SettlingWindow m i p q w
+  abbrev pub Settled : ℕ → ℕ → ℕ → Result (Option Window) Refusal → Type 0
+  Settled i p q (Ok (Some w)) = SettlingWindow m i p q w.bits
   Settled i p q (Ok None) = (w : ℕ) → w ≤ horizon → Settles m i p q w → ⊥
   Settled i p q (Err e) = ⊥

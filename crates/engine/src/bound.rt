@@ -1,10 +1,9 @@
 // The bound of a stream of any traffic.
 ghost use Rattle.engine.specs.Bounded.{BoundAsked, BoundDelivered};
 
-use crate::demand::turn_from;
-use crate::memo::new_memo;
-use crate::phase::worst;
-use crate::profile::read_profile;
+use crate::profile::Profile;
+use crate::search::Search;
+use crate::turn::turn_from;
 use bus::refusal::Refusal;
 use bus::traffic::Traffic;
 
@@ -14,15 +13,17 @@ pub fn bound<T: Traffic>(traffic: &T, stream: u32) -> Result<Option<u32>, Refusa
     ensures asked { BoundAsked (T.meaning traffic.now) stream result }
     ensures delivered { BoundDelivered (T.meaning traffic.now) stream result }
 {
-    let profile = read_profile(traffic, stream)?;
-    let mut memo = new_memo();
-    let Some(first) = worst(traffic, &profile, &mut memo, 0)? else {
+    let profile = Profile::read(traffic, stream)?;
+    let node = profile.stream.node;
+    let mut search = Search::new(profile);
+    let Some(first) = search.worst(0)? else {
         return Ok(None);
     };
     let mut most = first;
+    // The turning phases are gone through as for a group, but here each changes the search, and one may end it.
     let mut from = 1;
-    while let Some(turn) = turn_from(traffic, profile.node, from)? {
-        let Some(here) = worst(traffic, &profile, &mut memo, turn)? else {
+    while let Some(turn) = turn_from(traffic, node, from)? {
+        let Some(here) = search.worst(turn)? else {
             return Ok(None);
         };
         most = most.max(here);

@@ -1,43 +1,63 @@
-// The streams of one node that can go before the frames of a stream.
-ghost use Rattle.std.specs.Prelude.{◌≡◌, ◌+◌, ◌<◌, Ok, MatchResult};
-ghost use Rattle.engine.specs.Group.{Gathers, rival};
+// What the streams of a group may send before the frames of a stream, in bits.
+ghost use Rattle.std.specs.Prelude.{◌≡◌, ◌<◌, Ok};
+ghost use Rattle.bus.specs.Bound.{load};
+ghost use Rattle.engine.specs.Group.{Members, sent, heaviest_sent};
 
+use crate::turn::turn_from;
+use crate::window::Window;
+use arrayvec::ArrayVec;
 use bus::refusal::Refusal;
 use bus::traffic::Traffic;
 
 // A traffic has no more streams than this.
 const MOST_STREAMS: usize = 128;
 
-#[derive(Clone, Copy)]
+// Some streams of a node.
+#[derive(Default, Drop)]
 pub(crate) struct Group {
     pub(crate) node: u32,
-    pub(crate) streams: [u32; MOST_STREAMS],
-    pub(crate) len: usize,
+    pub(crate) streams: ArrayVec<u32, MOST_STREAMS>,
 }
 
-// Whether `other` is another stream of the node with the same or a lower identifier than the stream's.
-fn is_rival<T: Traffic>(traffic: &T, stream: u32, node: u32, other: u32) -> Result<bool, Refusal>
-    requires { (stream < (T.meaning traffic.now).streams) × (other < (T.meaning traffic.now).streams) }
-    ensures { result ≡ Ok (rival (T.meaning traffic.now) stream node other) }
+// What a stream may send in a window that begins at the phase.
+fn load<T: Traffic>(traffic: &T, stream: u32, phase: u32, window: Window) -> Result<u64, Refusal>
+    requires { (stream < (T.meaning traffic.now).streams) × (phase < (T.meaning traffic.now).cycle ((T.meaning traffic.now).node stream)) }
+    ensures { result ≡ Ok (load (T.meaning traffic.now) stream phase window.bits) }
 {
-    if traffic.node(other)? != node || other == stream {
-        return Ok(false);
-    }
-    Ok(traffic.identifier(other)? <= traffic.identifier(stream)?)
+    let count = traffic.count(stream, phase, window.bits)?;
+    Ok(u64::from(count) * u64::from(traffic.longest(stream)?))
 }
 
-// The streams of the node that can go before the stream's frames.
-pub(crate) fn gather<T: Traffic>(traffic: &T, stream: u32, node: u32) -> Result<Group, Refusal>
-    requires { stream < (T.meaning traffic.now).streams }
-    ensures { MatchResult result (Gathers (T.meaning traffic.now) stream node) (λ _. ⊥) }
-{
-    let mut streams = [0; MOST_STREAMS];
-    let mut len = 0;
-    for k in 0..traffic.streams() {
-        if is_rival(traffic, stream, node, k)? {
-            streams[len] = k;
-            len += 1;
+impl Group {
+    // What the group may send in a window that begins at the phase.
+    pub(crate) fn demand<T: Traffic>(
+        &self,
+        traffic: &T,
+        phase: u32,
+        window: Window,
+    ) -> Result<u64, Refusal>
+        requires { (Members (T.meaning traffic.now) self.now) × (phase < (T.meaning traffic.now).cycle self.now.node) }
+        ensures { result ≡ Ok (sent (T.meaning traffic.now) self.now phase window.bits) }
+    {
+        let mut sum = 0;
+        for &stream in self.streams.as_slice() {
+            sum += load(traffic, stream, phase, window)?;
         }
+        Ok(sum)
     }
-    Ok(Group { node, streams, len })
+
+    // The most that the group may send in a window, over all phases of its node. Phase 0 or a turning phase has it.
+    pub(crate) fn heaviest<T: Traffic>(&self, traffic: &T, window: Window) -> Result<u64, Refusal>
+        requires { (Members (T.meaning traffic.now) self.now) × (self.now.node < 16) }
+        ensures { result ≡ Ok (heaviest_sent (T.meaning traffic.now) self.now window.bits) }
+    {
+        let mut most = self.demand(traffic, 0, window)?;
+        // Each turning phase is looked for from the one before, so no range gives them.
+        let mut from = 1;
+        while let Some(turn) = turn_from(traffic, self.node, from)? {
+            most = most.max(self.demand(traffic, turn, window)?);
+            from = turn + 1;
+        }
+        Ok(most)
+    }
 }

@@ -2,9 +2,9 @@
 #![tactic(auto)]
 
 pub mod bound;
-mod demand;
 mod group;
-mod memo;
-mod phase;
 mod profile;
+mod search;
+mod stream;
+mod turn;
 mod window;

@@ -1,96 +1,61 @@
-// What is read once of the stream whose bound is asked for.
-ghost use Rattle.std.specs.Prelude.{◌≡◌, ◌+◌, ◌<◌, ◌≤◌, not, Ok, MatchResult, ◌==◌};
-ghost use Rattle.bus.specs.Asked.{StreamAsked};
-ghost use Rattle.bus.specs.Bound.{blocking, heaviest, others};
-ghost use Rattle.bus.specs.Sums.{only};
-ghost use Rattle.engine.specs.Profile.{Profiles, Groups, ProfileAsked};
+// What is worked out once of the stream whose bound is asked for.
+ghost use Rattle.std.specs.Prelude.{◌≡◌, ◌<◌, Ok, MatchResult};
+ghost use Rattle.bus.specs.declared.refusal.Refusal.TheVariants.{Question};
+ghost use Rattle.bus.specs.Bound.{blocking as most_blocking, others, own};
+ghost use Rattle.engine.specs.Group.{Gathers, Elsewhere};
 
-use crate::demand::heaviest;
-use crate::group::{Group, gather};
+use crate::group::Group;
+use crate::stream::{NODES, Stream};
+use crate::window::Window;
+use arrayvec::ArrayVec;
 use bus::refusal::Refusal;
 use bus::traffic::Traffic;
 
-const NODES: usize = 16;
-
-// `groups` has for each node the streams that can go before the stream's frames.
+// `beside` has the streams of its own node that can go before the stream's frames, `elsewhere` those of each other node that
+// has some.
 #[derive(Drop)]
-pub(crate) struct Profile {
-    pub(crate) stream: u32,
-    pub(crate) node: u32,
-    pub(crate) longest: u32,
+pub(crate) struct Profile<'a, T: Traffic> {
+    pub(crate) stream: Stream<'a, T>,
     pub(crate) blocking: u32,
-    pub(crate) groups: [Group; NODES],
+    beside: Group,
+    elsewhere: ArrayVec<Group, NODES>,
+    ghost blocks: { blocking ≡ most_blocking (T.meaning stream.traffic.now) stream.number },
+    ghost own_group: { Gathers (T.meaning stream.traffic.now) stream.number stream.node beside },
+    ghost other_groups: { Elsewhere (T.meaning stream.traffic.now) stream.number 16 elsewhere.items },
 }
 
-// The longest frame that may be on the wire when one of the stream is queued.
-fn blocking<T: Traffic>(traffic: &T, stream: u32) -> Result<u32, Refusal>
-    ensures { StreamAsked (T.meaning traffic.now) (blocking (T.meaning traffic.now)) stream result }
-{
-    let identifier = traffic.identifier(stream)?;
-    let mut most = 0;
-    for k in 0..traffic.streams() {
-        if identifier <= traffic.identifier(k)? {
-            most = traffic.longest(k)?.max(most);
+impl<'a, T: Traffic> Profile<'a, T> {
+    pub(crate) fn read(traffic: &'a T, number: u32) -> Result<Self, Refusal>
+        ensures { MatchResult result (λ p. (p.stream.traffic.now ≡ traffic.now) × (p.stream.number ≡ number)) (λ e. (e ≡ Question) × (number < (T.meaning traffic.now).streams → ⊥)) }
+    {
+        let stream = Stream::read(traffic, number)?;
+        let blocking = stream.blocking()?;
+        let beside = stream.gather(stream.node)?;
+        let elsewhere = stream.elsewhere()?;
+        Ok(Profile {
+            stream,
+            blocking,
+            beside,
+            elsewhere,
+        })
+    }
+
+    // What the streams of the other nodes may send before the stream's frame in the window.
+    pub(crate) fn others(&self, window: Window) -> Result<u64, Refusal>
+        ensures { let s = self.now.stream in result ≡ Ok (others (T.meaning s.traffic.now) s.number window.bits) }
+    {
+        let mut sum = 0;
+        for group in self.elsewhere.as_slice() {
+            sum += group.heaviest(self.stream.traffic, window)?;
         }
+        Ok(sum)
     }
-    Ok(most)
-}
 
-fn gather_all<T: Traffic>(traffic: &T, stream: u32) -> Result<[Group; NODES], Refusal>
-    requires { stream < (T.meaning traffic.now).streams }
-    ensures { MatchResult result (Groups (T.meaning traffic.now) stream 16) (λ _. ⊥) }
-{
-    let mut groups = [gather(traffic, stream, 0)?; NODES];
-    for n in 1..NODES {
-        groups[n] = gather(traffic, stream, n as u32)?;
+    // What the other streams of its own node may send before it in the window, which begins at the phase.
+    pub(crate) fn own(&self, phase: u32, window: Window) -> Result<u64, Refusal>
+        requires { let s = self.now.stream in phase < (T.meaning s.traffic.now).cycle ((T.meaning s.traffic.now).node s.number) }
+        ensures { let s = self.now.stream in result ≡ Ok (own (T.meaning s.traffic.now) s.number phase window.bits) }
+    {
+        self.beside.demand(self.stream.traffic, phase, window)
     }
-    Ok(groups)
-}
-
-pub(crate) fn read_profile<T: Traffic>(traffic: &T, stream: u32) -> Result<Profile, Refusal>
-    ensures { ProfileAsked (T.meaning traffic.now) stream result }
-{
-    let node = traffic.node(stream)?;
-    let longest = traffic.longest(stream)?;
-    let blocking = blocking(traffic, stream)?;
-    let groups = gather_all(traffic, stream)?;
-    Ok(Profile {
-        stream,
-        node,
-        longest,
-        blocking,
-        groups,
-    })
-}
-
-// The heaviest demand of a node, unless it is the stream's own.
-fn elsewhere<T: Traffic>(
-    traffic: &T,
-    profile: &Profile,
-    node: usize,
-    window: u32,
-) -> Result<u64, Refusal>
-    requires { (Profiles (T.meaning traffic.now) profile.now) × ((node < 16) × (window + (T.meaning traffic.now).reach ≤ 20971520)) }
-    ensures { result ≡ Ok (only (not (node == (T.meaning traffic.now).node profile.now.stream)) (heaviest (T.meaning traffic.now) profile.now.stream node window)) }
-{
-    if node as u32 == profile.node {
-        return Ok(0);
-    }
-    heaviest(traffic, &profile.groups[node], window)
-}
-
-// What the streams of the other nodes may send before the stream's frame in the window.
-pub(crate) fn others<T: Traffic>(
-    traffic: &T,
-    profile: &Profile,
-    window: u32,
-) -> Result<u64, Refusal>
-    requires { (Profiles (T.meaning traffic.now) profile.now) × (window + (T.meaning traffic.now).reach ≤ 20971520) }
-    ensures { result ≡ Ok (others (T.meaning traffic.now) profile.now.stream window) }
-{
-    let mut sum = 0;
-    for n in 0..NODES {
-        sum += elsewhere(traffic, profile, n, window)?;
-    }
-    Ok(sum)
 }
