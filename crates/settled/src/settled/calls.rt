@@ -12,7 +12,7 @@ use super::SettledPlan;
 use arrayvec::ArrayVec;
 use bus::refusal::Refusal;
 use plan::open::OpenPlan;
-use plan::record::Record;
+use plan::record::{Message, Record};
 use std::fmt;
 use verdict::{Verdict, judge};
 
@@ -40,14 +40,19 @@ impl fmt::Display for Row {
 }
 
 // The row of a message that the plan holds.
-fn work_out(plan: &OpenPlan, message: Record) -> Row
-    requires held { Among (held plan.now) message }
-    ensures named { result.identifier ≡ message.identifier }
-    ensures verdict { VerdictIs (traffic_of (held plan.now)) message.identifier message.due result.verdict }
+fn work_out(plan: &OpenPlan, message: &Message) -> Row
+    requires { Among (held plan.now) message.now.record }
+    ensures named { result.identifier ≡ message.now.record.identifier }
+    ensures verdict { VerdictIs (traffic_of (held plan.now)) message.now.record.identifier message.now.record.due result.verdict }
 {
-    let judged = judge(plan, message.identifier as u32, message.due as u32);
+    let Record {
+        identifier,
+        due,
+        ..
+    } = message.record;
+    let judged = judge(plan, identifier as u32, due as u32);
     Row {
-        identifier: message.identifier,
+        identifier,
         verdict: judged.unwrap(),
     }
 }
@@ -59,10 +64,8 @@ pub fn settle(plan: OpenPlan) -> SettledPlan
     ensures step { Step (open_book (held plan)) Settle None (settled_book (holding result)) }
 {
     let mut rows = ArrayVec::new();
-    for k in 0..plan.len() {
-        if let Some(message) = plan.message(k) {
-            rows.push(work_out(&plan, message));
-        }
+    for message in plan.messages() {
+        rows.push(work_out(&plan, message));
     }
     SettledPlan { plan, rows }
 }

@@ -4,7 +4,9 @@ use Rattle.plan.specs.Streams.{traffic_of}
 use Rattle.settled.specs.Figures.{row_at, figure_at, Known}
 use Rattle.settled.proofs.settled.calls.settle.Given as goal
 
-abbrev pub invariant-loop-k : goal.invariant-loop-k
-invariant-loop-k l =
-    let records = held l.plan in
-    (length l.rows.items ≡ l.k) × ((n : ℕ) → n < l.k → (row_at l.rows.items n).identifier ≡ (record_at records n).identifier) × ((n : ℕ) → n < l.k → Known (traffic_of records) (record_at records n) (figure_at l.rows.items n))
+-- a row stands for each of the messages so far
+abbrev pub invariant-loop-message : goal.invariant-loop-message
+invariant-loop-message l =
+    let records = held l.fn.plan in
+    let rows = l.rows.items in
+    (length rows ≡ l.message-index) × ((n : ℕ) → n < l.message-index → (row_at rows n).identifier ≡ (record_at records n).identifier) × ((n : ℕ) → n < l.message-index → Known (traffic_of records) (record_at records n) (figure_at rows n))
