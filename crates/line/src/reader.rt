@@ -18,6 +18,7 @@ fn shared_length(a: &[u8], b: &[u8]) -> usize
 }
 
 // The number that the digits write.
+#[tactic(auto, using(crate::proofs::Numbers::value_step))]
 fn value_of(digits: &[u8]) -> u64
     requires { Numeral digits.now }
     ensures { result ≡ digits_value 10 digits.now }
