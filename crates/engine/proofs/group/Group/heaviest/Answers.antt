@@ -19,11 +19,6 @@ loop-turn-init g c =
     let is : c.in_ok-most.most ≡ sent m group 0 c.args.window.bits = cc in
     rw is (climb_start m (g.met.T.Traffic.limits c.args.traffic.now) (g.met.T.Traffic.laws c.args.traffic.now) group.node (λ p. sent m group p c.args.window.bits) (sent_rises m group c.requires.0 c.args.window.bits) c.requires.1)
 
-pub overflow_add-from : goal.overflow_add-from
-overflow_add-from g c =
-    let few = (g.met.T.Traffic.limits c.args.traffic.now).few_phases c.args.self.now.node (omega arith) in
-    omega (arith, (turns g (goal.at.overflow_add-from g c).In-Some).1)
-
 pub loop-turn-preserved : goal.loop-turn-preserved
 loop-turn-preserved g c =
     let m = g.T.Traffic.meaning c.args.traffic.now in

@@ -22,12 +22,10 @@ overflow_add-sum g c =
     let is = c.as_slice-group-items.ensures.value in
     let inside = rw is at c.loop-group-test.true in
     let item = rw is at c.group-item.is in
-    let answered = c.in_ok-sum.ensures in
-    let told : c.in_ok-sum.field-0 ≡ heaviest_sent m c.group-item.result w = cc in
-    let same = ap (λ group. heaviest_sent m group w) item in
     let within = sum_by_more_le (λ group. heaviest_sent m group w) p.elsewhere.items c.loop-group.group-index c.group-item.result inside in
     let most = others_at_most m limits p.stream.number w (omega (arith, limits.reach_fits, c.args.window.within)) in
-    omega (arith, p.other_groups.whole w, others_all m p.stream.number w 16 refl)
+    let whole = p.other_groups.whole w ∙ others_all m p.stream.number w 16 refl in
+    grind arith
 
 pub loop-group-preserved : goal.loop-group-preserved
 loop-group-preserved g c =
@@ -37,10 +35,8 @@ loop-group-preserved g c =
     let is = c.as_slice-group-items.ensures.value in
     let inside = rw is at c.loop-group-test.true in
     let item = rw is at c.group-item.is in
-    let answered = c.in_ok-sum.ensures in
-    let told : c.in_ok-sum.field-0 ≡ heaviest_sent m c.group-item.result w = cc in
-    let same = ap (λ group. heaviest_sent m group w) item in
-    omega (arith, sum_by_more (λ group. heaviest_sent m group w) p.elsewhere.items c.loop-group.group-index c.group-item.result inside)
+    let more = sum_by_more (λ group. heaviest_sent m group w) p.elsewhere.items c.loop-group.group-index c.group-item.result inside in
+    grind arith
 
 pub returns : goal.returns
 returns g c =

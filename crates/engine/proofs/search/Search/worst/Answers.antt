@@ -46,12 +46,6 @@ response-requires g c =
     let is = place_is g (goal.at.response-requires g c).In_ok-place in
     (omega (arith, ints), grind (arith, ints))
 
-pub loop-window-smaller : goal.loop-window-smaller
-loop-window-smaller g c =
-    let s = c.args.self.now.profile.stream in
-    let long = (g.met.T.Traffic.limits s.traffic.now).long s.number s.known in
-    omega (arith, settled_few _ _ _ _ _ long (settling g (goal.at.loop-window-smaller g c).In-Some))
-
 pub loop-window-preserved : goal.loop-window-preserved
 loop-window-preserved g c =
     let s = c.args.self.now.profile.stream in

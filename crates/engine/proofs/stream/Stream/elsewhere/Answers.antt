@@ -4,9 +4,6 @@ use Rattle.engine.proofs.Nodes.{elsewhere_none, elsewhere_home, elsewhere_empty,
 use Rattle.engine.proofs.stream.Stream.elsewhere.Goals as goal
 use Rattle.engine.proofs.stream.Stream.elsewhere.Goals.{then-node-self+in_ok-group+then-not-is_empty, then-node-self+in_ok-group+else-not-is_empty, else-node-self}
 
-pub loop-node-init : goal.loop-node-init
-loop-node-init g c = rw c.new-groups.ensures (elsewhere_none _ c.args.self.now.number)
-
 pub loop-node-preserved : goal.loop-node-preserved
 loop-node-preserved g c =
     let s = c.args.self.now in
