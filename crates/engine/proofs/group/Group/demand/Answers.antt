@@ -1,5 +1,5 @@
 use Rattle.std.proofs.Common.{arith}
-use Rattle.std.proofs.lemmas.List.Sums.{sum_by_more, sum_by_more_le}
+use Rattle.std.proofs.lemmas.List.Sums.{sum_by_more_le}
 use Rattle.bus.specs.Bound.{load}
 use Rattle.engine.proofs.Sending.{sent_at_most}
 use Rattle.engine.proofs.group.Group.demand.Goals as goal
@@ -13,12 +13,4 @@ overflow_add-sum g c =
     let inside = rw is at c.loop-stream-test.true in
     let within = sum_by_more_le (λ k. load m k c.args.phase c.args.window.bits) xs c.loop-stream.stream-index 0 inside in
     let all = sent_at_most m c.args.self.now c.requires.0 (g.met.T.Traffic.limits c.args.traffic.now) c.args.phase c.args.window.bits c.args.window.within in
-    grind arith
-
-pub loop-stream-preserved : goal.loop-stream-preserved
-loop-stream-preserved g c =
-    let m = g.T.Traffic.meaning c.args.traffic.now in
-    let is = c.as_slice-stream-items.ensures.value in
-    let inside = rw is at c.loop-stream-test.true in
-    let more = sum_by_more (λ k. load m k c.args.phase c.args.window.bits) c.args.self.now.streams.items c.loop-stream.stream-index 0 inside in
     grind arith

@@ -1,4 +1,4 @@
-use Rattle.std.proofs.Common.{◌≡◌, ℕ, ◌+◌, ◌-◌, ◌*◌, ◌≤◌, Ok, ap, ◌∙◌, arith}
+use Rattle.std.proofs.Common.{◌≡◌, ℕ, ◌+◌, ◌-◌, ◌*◌, ◌≤◌, ap, ◌∙◌, arith}
 use Rattle.bus.specs.Bound.{need as needed, others, own, blocking}
 use Rattle.bus.proofs.Loads.{blocking_at_most, others_at_most, own_at_most, earlier_at_most}
 use Rattle.engine.proofs.search.Search.need.Given as given
@@ -43,6 +43,3 @@ overflow_add-result-2 g c = omega (arith, (total g c).1)
 
 pub overflow_add-result-3 : goal.overflow_add-result-3
 overflow_add-result-3 g c = omega (arith, (total g c).1)
-
-pub returns-clause-value : goal.returns-clause-value
-returns-clause-value g c = ap Ok (total g c).0

@@ -4,7 +4,6 @@ use Rattle.bus.specs.Bound.{SettlingWindow}
 use Rattle.bus.proofs.Growing.{far}
 use Rattle.bus.proofs.Listing.{listing_on, listing_end, listing_never}
 use Rattle.bus.proofs.Loads.{blocking_at_most}
-use Rattle.bus.proofs.Windows.{settled_few}
 use Rattle.engine.proofs.search.Search.worst.Given as given
 use Rattle.engine.proofs.search.Search.worst.Goals as goal
 use Rattle.engine.proofs.search.Search.worst.Goals.{In-Some, In_ok-place}

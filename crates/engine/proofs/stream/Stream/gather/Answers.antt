@@ -1,6 +1,6 @@
 use Rattle.std.proofs.Common.{◌≡◌, sym, ◌∙◌, arith}
 use Rattle.engine.specs.Group.{rival}
-use Rattle.engine.proofs.Gathering.{gathered_none, gathered_more, gathered_past}
+use Rattle.engine.proofs.Gathering.{gathered_more, gathered_past}
 use Rattle.engine.proofs.stream.Stream.gather.Goals as goal
 use Rattle.engine.proofs.stream.Stream.gather.Goals.{then-branch, else-branch}
 
