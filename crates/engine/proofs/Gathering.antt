@@ -2,7 +2,7 @@
 use Rattle.std.proofs.Common.{◌≡◌, ℕ, ◌+◌, ◌<◌, true, false, List, [], ◌∷◌, ◌++◌, refl, ap, arith}
 use Rattle.std.proofs.lemmas.Bool.{and_parts, eqb-true}
 use Rattle.std.proofs.lemmas.List.{length-append}
-use Rattle.std.proofs.lemmas.List.Elements.{All-nil, All-push}
+use Rattle.std.proofs.lemmas.List.Elements.{All-push}
 use Rattle.std.proofs.lemmas.List.Sums.{sum_by_push}
 use Rattle.bus.specs.Sums.{only}
 use Rattle.bus.specs.Meaning.{Meaning}
@@ -14,9 +14,6 @@ abbrev pub group : ℕ → List ℕ → Group
 group n xs = record { node = n; streams = record { items = xs } }
 
 module _ (m : Meaning) (i n : ℕ) where
-  pub gathered_none : Gathered m i n 0 (group n [])
-  gathered_none = record { is_node = refl; members = All-nil _; short = omega arith; whole = λ f. refl }
-
   pub gathered_past : (k : ℕ) (xs : List ℕ) → rival m i n k ≡ false → Gathered m i n k (group n xs) → Gathered m i n (k + 1) (group n xs)
   gathered_past k xs not_rival so = record {
     is_node = refl;

@@ -1,8 +1,8 @@
 -- The groups of the other nodes are gathered, node by node. Assumes nothing.
-use Rattle.std.proofs.Common.{◌≡◌, ℕ, ◌+◌, ◌<◌, not, eqb, List, [], ◌∷◌, ◌++◌, length, sym, refl, ap, ◌∙◌, arith}
+use Rattle.std.proofs.Common.{◌≡◌, ℕ, ◌+◌, ◌<◌, not, eqb, List, [], ◌∷◌, ◌++◌, length, sym, ap, ◌∙◌, arith}
 use Rattle.std.proofs.lemmas.Bool.{ne_eqb, eq-eqb}
 use Rattle.std.proofs.lemmas.List.{length-append}
-use Rattle.std.proofs.lemmas.List.Elements.{All-nil, All-push}
+use Rattle.std.proofs.lemmas.List.Elements.{All-push}
 use Rattle.std.proofs.lemmas.List.Sums.{sum_by_push}
 use Rattle.bus.specs.Sums.{only}
 use Rattle.bus.specs.Meaning.{Meaning, Laws}
@@ -12,9 +12,6 @@ use Rattle.engine.specs.declared.group.Group.{Group}
 use Rattle.engine.specs.Group.{Members, Gathers, Elsewhere, heaviest_sent}
 use Rattle.engine.proofs.Rivals.{heaviest_is}
 use Rattle.engine.proofs.Sending.{heaviest_none}
-
-pub elsewhere_none : (m : Meaning) (i : ℕ) → Elsewhere m i 0 []
-elsewhere_none m i = record { short = omega arith; each = All-nil _; whole = λ w. refl }
 
 module _ (m : Meaning) (laws : Laws m) (i n : ℕ) (known : i < m.streams) (groups : List Group) (so : Elsewhere m i n groups) where
   pub elsewhere_home : n ≡ m.node i → Elsewhere m i (n + 1) groups

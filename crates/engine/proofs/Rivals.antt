@@ -1,10 +1,10 @@
--- The groups of a stream's rivals send just its demands. Assumes nothing.
+-- The groups of a stream's rivals at other nodes send just its demands. Assumes nothing.
 use Rattle.std.proofs.Common.{◌≡◌, ℕ, ◌<◌, Bool, true, false, not, ◌&&◌, eqb, ltb, leb, sym, refl, ap, ◌∙◌, arith}
 use Rattle.std.proofs.lemmas.Bool.{eqb-true}
 use Rattle.std.proofs.lemmas.Bool.Decides.{nat_tests}
 use Rattle.bus.specs.Sums.{only}
 use Rattle.bus.specs.Meaning.{Meaning, Laws}
-use Rattle.bus.specs.Bound.{load, demand, heaviest, own, urgent}
+use Rattle.bus.specs.Bound.{load, demand, heaviest, urgent}
 use Rattle.bus.proofs.Adding.{sum_same, largest_same}
 use Rattle.engine.specs.declared.group.Group.{Group}
 use Rattle.engine.specs.Group.{Gathers, sent, heaviest_sent, rival}
@@ -32,7 +32,3 @@ module _ (m : Meaning) (laws : Laws m) (i n : ℕ) (known : i < m.streams) (othe
   pub heaviest_is : (g : Group) (w : ℕ) → Gathers m i n g → heaviest_sent m g w ≡ heaviest m i n w
   heaviest_is g w gathers =
       rw gathers.is_node (largest_same (m.cycle n) (λ p. sent m g p w) (λ p. demand m i n p w) (λ p l. sent_demand g p w gathers))
-
--- and those of its own node
-pub sent_own : (m : Meaning) (i p w : ℕ) (g : Group) → Gathers m i (m.node i) g → sent m g p w ≡ own m i p w
-sent_own m i p w g gathers = gathers.whole (λ k. load m k p w)

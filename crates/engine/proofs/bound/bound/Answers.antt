@@ -1,4 +1,4 @@
-use Rattle.std.proofs.Common.{◌≡◌, ◌<◌, Some, None}
+use Rattle.std.proofs.Common.{◌≡◌, ◌<◌, Some, None, arith}
 use Rattle.bus.specs.Asked.{FirstTurn}
 use Rattle.bus.proofs.Bounding.{bounding_start, bounding_on, bounding_end}
 use Rattle.bus.proofs.Delivering.{bounds_hold}
@@ -19,14 +19,25 @@ loop-turn-init g c =
     let zero = rw (c.in-Some.is, c.new-search.ensures, is.0, is.1) at c.in_ok-first.ensures.worst in
     rw (c.worst.ensures.same, c.new-search.ensures) (is.0, is.1, bounding_start _ (g.met.T.Traffic.limits c.args.traffic.now) (g.met.T.Traffic.laws c.args.traffic.now) c.args.stream (known g at.In_ok-profile) _ zero)
 
+-- the phase of this turn is the first turning one
+turns : (g : given.Over) (c : In-Some-2 g) → FirstTurn (g.T.Traffic.meaning c.args.traffic.now) c.in_ok-profile.profile.stream.node c.loop-turn.from (Some c.in-Some-2.turn)
+turns g c = rw c.in-Some-2.is at c.in_ok-turn.ensures
+
+pub overflow_add-from : goal.overflow_add-from
+overflow_add-from g c =
+    let at = goal.at.overflow_add-from g c in
+    let limits = g.met.T.Traffic.limits c.args.traffic.now in
+    let inside = limits.node_below c.args.stream (known g at.In_ok-profile) in
+    let few = limits.few_phases c.in_ok-profile.profile.stream.node (omega (arith, node_is g at.In_ok-profile)) in
+    omega (arith, (turns g at.In-Some-2).1)
+
 pub loop-turn-preserved : goal.loop-turn-preserved
 loop-turn-preserved g c =
     let at = goal.at.loop-turn-preserved g c in
     let so = c.loop-turn.invariant in
-    let turn : FirstTurn (g.T.Traffic.meaning c.args.traffic.now) c.in_ok-profile.profile.stream.node c.loop-turn.from (Some c.in-Some-2.turn) = rw c.in-Some-2.is at c.in_ok-turn.ensures in
     let here = rw (c.in-Some-3.is, so.0, so.1) at c.in_ok-here.ensures.worst in
     let on = bounding_on _ (g.met.T.Traffic.limits c.args.traffic.now) (g.met.T.Traffic.laws c.args.traffic.now) c.args.stream (known g at.In_ok-profile) _ _ _ _ _ so.2
-    (rw (node_is g at.In_ok-profile) at turn)
+    (rw (node_is g at.In_ok-profile) at (turns g at.In-Some-2))
     here in
     rw c.worst-in-Some-2.ensures.same (so.0, so.1, rw c.max-most.ensures on)
 

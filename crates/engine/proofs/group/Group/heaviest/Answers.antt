@@ -1,6 +1,6 @@
-use Rattle.std.proofs.Common.{◌≡◌, max, Some, None, Ok, ap, arith}
+use Rattle.std.proofs.Common.{◌≡◌, max, Some, None, Ok, ap}
 use Rattle.bus.specs.Asked.{FirstTurn}
-use Rattle.bus.proofs.Climb.{climb_start, climb_on, climb_end}
+use Rattle.bus.proofs.Climb.{climb_on, climb_end}
 use Rattle.engine.specs.Group.{sent}
 use Rattle.engine.proofs.Sending.{sent_rises}
 use Rattle.engine.proofs.group.Group.heaviest.Given as given
@@ -10,19 +10,6 @@ use Rattle.engine.proofs.group.Group.heaviest.Goals.{In-Some}
 -- the phase of this turn is the first turning one
 turns : (g : given.Over) (c : In-Some g) → FirstTurn (g.T.Traffic.meaning c.args.traffic.now) c.args.self.now.node c.loop-turn.from (Some c.in-Some.turn)
 turns g c = rw c.in-Some.is at c.in_ok-turn.ensures
-
-pub loop-turn-init : goal.loop-turn-init
-loop-turn-init g c =
-    let m = g.T.Traffic.meaning c.args.traffic.now in
-    let group = c.args.self.now in
-    let asked = c.in_ok-most.ensures in
-    let is : c.in_ok-most.most ≡ sent m group 0 c.args.window.bits = cc in
-    rw is (climb_start m (g.met.T.Traffic.limits c.args.traffic.now) (g.met.T.Traffic.laws c.args.traffic.now) group.node (λ p. sent m group p c.args.window.bits) (sent_rises m group c.requires.0 c.args.window.bits) c.requires.1)
-
-pub overflow_add-from : goal.overflow_add-from
-overflow_add-from g c =
-    let few = (g.met.T.Traffic.limits c.args.traffic.now).few_phases c.args.self.now.node (omega arith) in
-    omega (arith, (turns g (goal.at.overflow_add-from g c).In-Some).1)
 
 pub loop-turn-preserved : goal.loop-turn-preserved
 loop-turn-preserved g c =

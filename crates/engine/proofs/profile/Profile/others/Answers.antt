@@ -1,17 +1,10 @@
-use Rattle.std.proofs.Common.{◌≡◌, Ok, ap, ◌∙◌, refl, arith}
+use Rattle.std.proofs.Common.{Ok, ap, ◌∙◌, refl, arith}
 use Rattle.std.proofs.lemmas.List.{take_all}
-use Rattle.std.proofs.lemmas.List.Sums.{sum_by_more, sum_by_more_le}
+use Rattle.std.proofs.lemmas.List.Sums.{sum_by_more_le}
 use Rattle.bus.proofs.Demands.{others_all}
 use Rattle.bus.proofs.Loads.{others_at_most}
 use Rattle.engine.specs.Group.{heaviest_sent}
 use Rattle.engine.proofs.profile.Profile.others.Goals as goal
-
-pub heaviest-requires : goal.heaviest-requires
-heaviest-requires g c =
-    let is = c.as_slice-group-items.ensures.value in
-    let inside = rw is at c.loop-group-test.true in
-    let here = rw (← is, ← c.group-item.is) at (c.args.self.now.other_groups.each c.loop-group.group-index c.group-item.result inside) in
-    (here.1, here.0)
 
 pub overflow_add-sum : goal.overflow_add-sum
 overflow_add-sum g c =
@@ -22,25 +15,10 @@ overflow_add-sum g c =
     let is = c.as_slice-group-items.ensures.value in
     let inside = rw is at c.loop-group-test.true in
     let item = rw is at c.group-item.is in
-    let answered = c.in_ok-sum.ensures in
-    let told : c.in_ok-sum.field-0 ≡ heaviest_sent m c.group-item.result w = cc in
-    let same = ap (λ group. heaviest_sent m group w) item in
     let within = sum_by_more_le (λ group. heaviest_sent m group w) p.elsewhere.items c.loop-group.group-index c.group-item.result inside in
     let most = others_at_most m limits p.stream.number w (omega (arith, limits.reach_fits, c.args.window.within)) in
-    omega (arith, p.other_groups.whole w, others_all m p.stream.number w 16 refl)
-
-pub loop-group-preserved : goal.loop-group-preserved
-loop-group-preserved g c =
-    let p = c.args.self.now in
-    let m = g.T.Traffic.meaning p.stream.traffic.now in
-    let w = c.args.window.bits in
-    let is = c.as_slice-group-items.ensures.value in
-    let inside = rw is at c.loop-group-test.true in
-    let item = rw is at c.group-item.is in
-    let answered = c.in_ok-sum.ensures in
-    let told : c.in_ok-sum.field-0 ≡ heaviest_sent m c.group-item.result w = cc in
-    let same = ap (λ group. heaviest_sent m group w) item in
-    omega (arith, sum_by_more (λ group. heaviest_sent m group w) p.elsewhere.items c.loop-group.group-index c.group-item.result inside)
+    let whole = p.other_groups.whole w ∙ others_all m p.stream.number w 16 refl in
+    grind arith
 
 pub returns : goal.returns
 returns g c =

@@ -4,7 +4,6 @@ use Rattle.bus.specs.Bound.{SettlingWindow}
 use Rattle.bus.proofs.Growing.{far}
 use Rattle.bus.proofs.Listing.{listing_on, listing_end, listing_never}
 use Rattle.bus.proofs.Loads.{blocking_at_most}
-use Rattle.bus.proofs.Windows.{settled_few}
 use Rattle.engine.proofs.search.Search.worst.Given as given
 use Rattle.engine.proofs.search.Search.worst.Goals as goal
 use Rattle.engine.proofs.search.Search.worst.Goals.{In-Some, In_ok-place}
@@ -45,12 +44,6 @@ response-requires g c =
     let reach = (g.met.T.Traffic.limits s.traffic.now).reach_fits in
     let is = place_is g (goal.at.response-requires g c).In_ok-place in
     (omega (arith, ints), grind (arith, ints))
-
-pub loop-window-smaller : goal.loop-window-smaller
-loop-window-smaller g c =
-    let s = c.args.self.now.profile.stream in
-    let long = (g.met.T.Traffic.limits s.traffic.now).long s.number s.known in
-    omega (arith, settled_few _ _ _ _ _ long (settling g (goal.at.loop-window-smaller g c).In-Some))
 
 pub loop-window-preserved : goal.loop-window-preserved
 loop-window-preserved g c =

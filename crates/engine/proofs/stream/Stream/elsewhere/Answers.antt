@@ -1,11 +1,8 @@
 use Rattle.std.proofs.Common.{◌∙◌, sym}
 use Rattle.std.proofs.lemmas.Bool.{eqb-true}
-use Rattle.engine.proofs.Nodes.{elsewhere_none, elsewhere_home, elsewhere_empty, elsewhere_more}
+use Rattle.engine.proofs.Nodes.{elsewhere_home, elsewhere_empty, elsewhere_more}
 use Rattle.engine.proofs.stream.Stream.elsewhere.Goals as goal
 use Rattle.engine.proofs.stream.Stream.elsewhere.Goals.{then-node-self+in_ok-group+then-not-is_empty, then-node-self+in_ok-group+else-not-is_empty, else-node-self}
-
-pub loop-node-init : goal.loop-node-init
-loop-node-init g c = rw c.new-groups.ensures (elsewhere_none _ c.args.self.now.number)
 
 pub loop-node-preserved : goal.loop-node-preserved
 loop-node-preserved g c =

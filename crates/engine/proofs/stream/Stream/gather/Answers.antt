@@ -1,11 +1,8 @@
 use Rattle.std.proofs.Common.{◌≡◌, sym, ◌∙◌, arith}
 use Rattle.engine.specs.Group.{rival}
-use Rattle.engine.proofs.Gathering.{gathered_none, gathered_more, gathered_past}
+use Rattle.engine.proofs.Gathering.{gathered_more, gathered_past}
 use Rattle.engine.proofs.stream.Stream.gather.Goals as goal
 use Rattle.engine.proofs.stream.Stream.gather.Goals.{then-branch, else-branch}
-
-pub loop-other-init : goal.loop-other-init
-loop-other-init g c = rw c.new-streams.ensures (gathered_none _ c.args.self.now.number c.args.node)
 
 pub loop-other-preserved : goal.loop-other-preserved
 loop-other-preserved g c =
