@@ -8,6 +8,7 @@ const MOST_INSTANCES: u32 = 4194306;
 
 const LONGEST_SPAN: u64 = 20971520;
 
+// The jitter is no part of it: it is the message's, and a mixed message has two timings.
 #[derive(Clone, Copy, PartialEq, Eq, Debug)]
 pub enum Timing {
     // at the offset and then once in each period

@@ -49,7 +49,7 @@ impl<'a> Reader<'a> {
         &rest[..letters.count()]
     }
 
-    // The longest number that stands here.
+    // The longest number that stands here. It is bounded and a word is not: one chain for both would take the test and the bound.
     fn digits(&self) -> &'a [u8]
         requires within { self.now.at < length self.now.text.now }
         requires first { Digit (slice_index self.now.text.now self.now.at) }

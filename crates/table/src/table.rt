@@ -97,6 +97,7 @@ pub fn read_table(plan: &mut OpenPlan, text: &[u8]) -> Result<(), Fault>
         });
     }
     let mut rest = text;
+    // Where a line ends comes out on the way, so no range counts the lines.
     let mut line = 1;
     while !rest.is_empty() {
         let next = enter_line(plan, rest, line)?;
