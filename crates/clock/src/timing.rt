@@ -58,6 +58,7 @@ impl Timing {
         if !self.is_paced() || instance < 1 || instance > MOST_INSTANCES {
             return Err(Refusal::Question);
         }
+        // It is far below the end of an i64; TryFrom would want a refusal that never comes.
         Ok(self.late(jitter, phase, instance) as i64 - i64::from(jitter))
     }
 

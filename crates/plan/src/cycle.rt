@@ -46,6 +46,7 @@ pub(crate) fn cycles_of(messages: &[Message]) -> Option<[u32; NODES]>
 {
     let mut cycles = [1; NODES];
     for (node, cycle) in cycles.iter_mut().enumerate() {
+        // There is no From of a usize for a u64.
         *cycle = cycle_of(messages, node as u64)?;
     }
     Some(cycles)

@@ -22,6 +22,7 @@ impl fmt::Display for Ending {
     ghost output = { λ ending. Some (ending_told ending) };
 
     fn fmt<W: fmt::Write>(&self, f: &mut fmt::Formatter<W>) -> fmt::Result {
+        // One more than a place may be more than a usize holds; there is no From of a usize for a u128.
         match *self {
             Ending::Misplaced(place) => write!(f, "misplaced {}", place as u128 + 1),
             Ending::Unread(place) => write!(f, "unread {}", place as u128 + 1),

@@ -112,6 +112,7 @@ impl Traffic for Sheet {
         if phase > 0 || instance < 1 || instance > LAST_INSTANCE {
             return Err(Refusal::Question);
         }
+        // It is far below the end of an i64; TryFrom would want a refusal that never comes.
         Ok(sender.span(instance) as i64 - i64::from(sender.jitter))
     }
 

@@ -8,7 +8,7 @@ use table::table::LONGEST_TEXT;
 
 fn main(rt: HostRuntime) -> io::Result<()> {
     let mut text = Vec::new(rt.alloc());
-    // One byte past the longest text tells that it is too long.
+    // One byte past the longest text tells that it is too long. There is no From of a usize for a u64.
     rt.stdin()
         .take(LONGEST_TEXT as u64 + 1)
         .read_to_end(&mut text)?;
