@@ -55,11 +55,7 @@ fn larger(most: Option<u32>, bound: u32) -> u32
 
 // The verdict on the message with the identifier, whose streams are those that have it, or none where one of them is
 // unsettled.
-pub fn judge<T: Traffic>(
-    traffic: &T,
-    identifier: u32,
-    due: u32,
-) -> Result<Option<Verdict>, Refusal>
+pub fn judge<T: Traffic>(traffic: &T, identifier: u32, due: u32) -> Result<Option<Verdict>, Refusal>
     ensures judged { Judged (T.meaning traffic.now) identifier due result }
     ensures delivered { JudgedDelivers (T.meaning traffic.now) identifier result }
 {
