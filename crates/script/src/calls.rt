@@ -1,5 +1,5 @@
 // Reads calls, one a line.
-ghost use Rattle.std.specs.Prelude.{IfOk, length};
+ghost use Rattle.std.specs.Prelude.{◌≡◌, ◌↔◌, IfOk, IfSome, IsNone};
 ghost use Rattle.script.specs.Calls.{Follows, MessageRead, AmountRead, CallRead, ScriptRead, Within};
 
 use crate::words::{Word, read_word};
@@ -38,28 +38,34 @@ fn read_amount(text: &[u8]) -> Option<(u64, &[u8])>
     follow(text, read_number(text))
 }
 
+// The call that is made of an argument, and what comes after it.
+fn called<'a, V, F: FnOnce(V) -> Call>(
+    read: Option<(V, &'a [u8])>,
+    call: F,
+) -> Option<(Call, &'a [u8])>
+    requires { F.IsAlwaysCallable call }
+    ensures none { IsNone result ↔ IsNone read.entry }
+    ensures made { IfSome result (λ made. IfSome read.entry (λ found. F.post call found.0 made.0 × (made.1.now ≡ found.1.now))) }
+{
+    read.map(|(value, rest)| (call(value), rest))
+}
+
 // The call on the line that begins the text, and what comes after that line.
 fn read_call(text: &[u8]) -> Option<(Call, &[u8])>
     ensures { CallRead text.now result }
 {
     let (word, argument) = read_word(text)?;
     match word {
-        Word::Enter => read_message(argument).map(|(message, rest)| (Call::Enter(message), rest)),
-        Word::Alter => read_message(argument).map(|(message, rest)| (Call::Alter(message), rest)),
-        Word::Strike => read_amount(argument).map(|(identifier, rest)| (
-            Call::Strike(identifier),
-            rest,
-        )),
+        Word::Enter => called(read_message(argument), Call::Enter),
+        Word::Alter => called(read_message(argument), Call::Alter),
+        Word::Strike => called(read_amount(argument), Call::Strike),
         Word::Settle => Some((Call::Settle, argument)),
         Word::Reopen => Some((Call::Reopen, argument)),
-        Word::Verdict => read_amount(argument).map(|(identifier, rest)| (
-            Call::Verdict(identifier),
-            rest,
-        )),
-        Word::Row => read_amount(argument).map(|(position, rest)| (
-            Call::Row(position as usize),
-            rest,
-        )),
+        Word::Verdict => called(read_amount(argument), Call::Verdict),
+        Word::Row => called(
+            read_amount(argument),
+            |position| Call::Row(position as usize),
+        ),
     }
 }
 

@@ -1,14 +1,36 @@
 -- The largest bound of a message's streams, stream by stream. Assumes nothing.
-use Rattle.std.proofs.Common.{◌≡◌, ℕ, ◌+◌, ◌<◌, ◌≤◌, Some, None, Option, inl, inr, arith}
-use Rattle.std.proofs.lemmas.Bool.{cases_lt}
+use Rattle.std.proofs.Common.{◌≡◌, ℕ, ◌+◌, ◌<◌, ◌≤◌, max, Bool, true, false, cond, Some, None, Option, Less, Equal, Greater, ◌==◌, nat_lt, refl, ◌∙◌, inl, inr, arith}
+use Rattle.std.specs.Option.{option_cmp}
+use Rattle.std.specs.Ordering.{is_lt, nat_cmp, ord_max}
+use Rattle.std.proofs.lemmas.Bool.{cases_lt, cond-true, cond-false}
 use Rattle.bus.specs.Meaning.{Meaning}
 use Rattle.bus.specs.Bound.{IsBound}
-use Rattle.verdict.specs.Judged.{Sends, Largest, NoLess}
+use Rattle.verdict.specs.Judged.{Sends, Largest}
 
 -- what is known after the first few streams
 abbrev pub Gained : Meaning → ℕ → ℕ → Option ℕ → Type 0
 Gained m identifier few (Some b) = Largest m identifier few b
 Gained m identifier few None = (i : ℕ) → Sends m identifier few i → ⊥
+
+-- r is the larger of a bound and those before it
+abbrev pub NoLess : Option ℕ → ℕ → ℕ → Type 0
+NoLess (Some before) bound r = r ≡ max before bound
+NoLess None bound r = r ≡ bound
+
+by_test : (less same : Bool) (before b : ℕ) → cond (is_lt (cond less Less (cond same Equal Greater))) (Some before) (Some b) ≡ cond less (Some before) (Some b)
+by_test true same before b = refl
+by_test false true before b = refl
+by_test false false before b = refl
+
+-- where none is below all, the larger is one
+pub larger : (most : Option ℕ) (b : ℕ) → (r : ℕ) × (ord_max (option_cmp nat_cmp) most (Some b) ≡ Some r) × NoLess most b r
+larger None b = (b, refl, refl)
+larger (Some before) b =
+    let test = by_test (nat_lt b before) (b == before) before b in
+    elim (cases_lt b before) [
+      | inl less ↦ (before, test ∙ cond-true (nat_lt b before) (Some before) (Some b) (grind arith), omega arith)
+      | inr more ↦ (b, test ∙ cond-false (nat_lt b before) (Some before) (Some b) (grind arith), omega arith)
+    ]
 
 module _ (m : Meaning) (identifier k : ℕ) where
   -- one stream more, as one of the former or the last

@@ -1,5 +1,5 @@
 -- The verdict on a message, whose streams are those with its identifier. Assumes nothing.
-use Rattle.std.specs.Prelude.{◌≡◌, ℕ, ◌<◌, ◌≤◌, max, cond, Some, None, Ok, Err, Option, Result, nat_le}
+use Rattle.std.specs.Prelude.{◌≡◌, ℕ, ◌<◌, ◌≤◌, cond, Some, None, Ok, Err, Option, Result, nat_le}
 use Rattle.bus.specs.declared.refusal.Refusal.{Refusal}
 use Rattle.bus.specs.declared.refusal.Refusal.TheVariants.{NotHeld}
 use Rattle.bus.specs.Meaning.{Meaning}
@@ -12,10 +12,6 @@ use Rattle.verdict.specs.declared.Verdict.{Verdict}
 -- met up to the due time, late above it
 abbrev pub judgement_of : ℕ → ℕ → Judgement
 judgement_of bound due = cond (nat_le bound due) Met Late
-
-abbrev pub NoLess : Option ℕ → ℕ → ℕ → Type 0
-NoLess (Some before) bound r = r ≡ max before bound
-NoLess None bound r = r ≡ bound
 
 module _ (m : Meaning) (identifier : ℕ) where
   -- i is one of the first few streams, and of the message

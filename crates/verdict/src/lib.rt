@@ -1,7 +1,7 @@
 // Whether a message is met: the largest bound of its streams beside its due time.
 #![tactic(auto)]
 
-ghost use Rattle.verdict.specs.Judged.{Judged, JudgedDelivers, judgement_of, NoLess};
+ghost use Rattle.verdict.specs.Judged.{Judged, JudgedDelivers, judgement_of};
 ghost use Rattle.verdict.specs.Text.{judgement_text};
 ghost use Rattle.std.specs.Prelude.{◌≡◌, Some};
 
@@ -46,13 +46,6 @@ fn compare(bound: u32, due: u32) -> Judgement
     }
 }
 
-// The larger of a bound and those before it.
-fn larger(most: Option<u32>, bound: u32) -> u32
-    ensures { NoLess most bound result }
-{
-    most.map_or(bound, |before| before.max(bound))
-}
-
 // The verdict on the message with the identifier, whose streams are those that have it, or none where one of them is
 // unsettled.
 pub fn judge<T: Traffic>(traffic: &T, identifier: u32, due: u32) -> Result<Option<Verdict>, Refusal>
@@ -65,7 +58,7 @@ pub fn judge<T: Traffic>(traffic: &T, identifier: u32, due: u32) -> Result<Optio
             let Some(bound) = bound(traffic, stream)? else {
                 return Ok(None);
             };
-            most = Some(larger(most, bound));
+            most = most.max(Some(bound));
         }
     }
     let bound = most.ok_or(Refusal::NotHeld)?;

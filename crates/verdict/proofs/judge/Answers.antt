@@ -3,7 +3,7 @@ use Rattle.bus.specs.Bound.{IsBound}
 use Rattle.verdict.specs.declared.Verdict.{Verdict}
 use Rattle.verdict.specs.Judged.{VerdictIs}
 use Rattle.verdict.proofs.Delivers.{verdict_delivers}
-use Rattle.verdict.proofs.Gaining.{gained_past, gained_more}
+use Rattle.verdict.proofs.Gaining.{larger, gained_past, gained_more}
 use Rattle.verdict.proofs.judge.Goals as goal
 use Rattle.verdict.proofs.judge.Goals.{then-branch-identifier+in_ok-bound+in-Some, else-branch-identifier}
 
@@ -16,7 +16,8 @@ loop-stream-preserved g c =
     elim c.if-branch-identifier.branch [
       | then-branch-identifier+in_ok-bound+in-Some w ↦
           let bound : IsBound m k w.in-Some.bound = rw w.in-Some.is at w.in_ok-bound.ensures.asked.1 in
-          rw w.most-is (gained_more m c.args.identifier k c.loop-stream.most w.in-Some.bound w.larger.result (sym is ∙ w.if-branch-identifier.true) bound w.larger.ensures c.loop-stream.invariant)
+          let most = larger c.loop-stream.most w.in-Some.bound in
+          rw (w.most-is ∙ w.max-most.ensures ∙ most.1) (gained_more m c.args.identifier k c.loop-stream.most w.in-Some.bound most.0 (sym is ∙ w.if-branch-identifier.true) bound most.2 c.loop-stream.invariant)
       | else-branch-identifier w ↦
           rw w.most-is (gained_past m c.args.identifier k c.loop-stream.most (λ e. w.if-branch-identifier.false (is ∙ e)) c.loop-stream.invariant)
     ]
