@@ -35,7 +35,7 @@ pub fn report(heap: Global, plan: &SettledPlan) -> Result<String, AllocError>
     ensures delivered { IfOk result (λ _. VerdictsHold (holding plan.now)) }
 {
     let mut text = String::new(heap);
-    // Identifier by identifier, so that nothing is sorted: sorted rows would want a copy, and a proof that it has them all.
+    // The range gives the order; sorted rows would be a copy first.
     for identifier in 0..IDENTIFIERS {
         if let Ok(verdict) = plan.verdict(identifier) {
             let row = Row {

@@ -1,5 +1,5 @@
 -- The words that calls begin with. Assumes nothing.
-use Rattle.std.specs.Prelude.{◌≡◌, ℕ, List, ◌++◌, Some, None, codes, Option, MatchOption, ◌≢◌}
+use Rattle.std.specs.Prelude.{◌≡◌, ℕ, List, ◌++◌, Some, None, codes, Option, ◌≢◌}
 use Rattle.std.specs.Borrow.{Bor}
 use Rattle.script.specs.declared.words.Word.{Word}
 use Rattle.script.specs.declared.words.Word.TheVariants.{Enter, Alter, Strike, Settle, Reopen, Verdict, Row}
@@ -13,10 +13,6 @@ word_text Settle = codes "settle\n"
 word_text Reopen = codes "reopen\n"
 word_text Verdict = codes "verdict "
 word_text Row = codes "row "
-
--- what comes after the front w, if the text begins with it
-abbrev pub Stripped : List ℕ → List ℕ → Option (Bor (List ℕ)) → Type 0
-Stripped w s r = MatchOption r ((rest : List ℕ) → s ≢ w ++ rest) (λ rest. s ≡ w ++ rest.now)
 
 -- the word that the text begins with, if there is one
 abbrev pub WordRead : List ℕ → Option (Word × Bor (List ℕ)) → Type 0

@@ -1,6 +1,6 @@
 // The words that calls begin with.
 ghost use Rattle.std.specs.Prelude.{◌≡◌};
-ghost use Rattle.script.specs.Words.{word_text, Stripped, WordRead};
+ghost use Rattle.script.specs.Words.{word_text, WordRead};
 
 #[derive(Clone, Copy, PartialEq, Eq, Debug)]
 pub(crate) enum Word {
@@ -40,18 +40,12 @@ impl Word {
     }
 }
 
-fn strip<'a>(text: &'a [u8], front: &[u8]) -> Option<&'a [u8]>
-    ensures { Stripped front.now text.now result }
-{
-    text.strip_prefix(front)
-}
-
 // The word that begins the text, and what comes after it.
 pub(crate) fn read_word(text: &[u8]) -> Option<(Word, &[u8])>
     ensures { WordRead text.now result }
 {
     for word in WORDS {
-        if let Some(rest) = strip(text, word.text()) {
+        if let Some(rest) = text.strip_prefix(word.text()) {
             return Some((word, rest));
         }
     }

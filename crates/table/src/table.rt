@@ -13,7 +13,7 @@ use std::fmt;
 // A longer text is refused.
 pub const LONGEST_TEXT: usize = 16_384;
 
-// The first line that is refused, and the place in it, both counted from 1, and why. A text that is too long is refused as
+// The first line that is refused, and the place in it, both counted from 1, and why. A text that is too long is told as
 // line 0, place 0.
 #[derive(Clone, Copy, PartialEq, Eq, Debug)]
 pub struct Fault {
@@ -97,7 +97,7 @@ pub fn read_table(plan: &mut OpenPlan, text: &[u8]) -> Result<(), Fault>
         });
     }
     let mut rest = text;
-    // Where a line ends comes out on the way, so no range counts the lines.
+    // The reading finds where a line ends: to split the text first would go over each byte twice, and owe that both agree.
     let mut line = 1;
     while !rest.is_empty() {
         let next = enter_line(plan, rest, line)?;

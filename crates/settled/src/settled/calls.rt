@@ -16,7 +16,7 @@ use plan::record::{Message, Record};
 use std::fmt;
 use verdict::{Verdict, judge};
 
-// A message's identifier and the verdict on it, none where it is unsettled.
+// A message's identifier and the verdict on it, none where it is unsettled. Default fills the places that no message has.
 #[derive(Clone, Copy, PartialEq, Eq, Debug, Default)]
 pub struct Row {
     pub identifier: u64,
@@ -76,8 +76,7 @@ impl SettledPlan {
         ensures holds { held result ≡ holding self }
         ensures step { Step (settled_book (holding self)) Reopen None (open_book (held result)) }
     {
-        let SettledPlan { plan, rows: _ } = self;
-        plan
+        self.plan
     }
 
     // The verdict on the message with the identifier, none where it is unsettled.

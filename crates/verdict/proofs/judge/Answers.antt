@@ -1,4 +1,6 @@
 use Rattle.std.proofs.Common.{◌≡◌, Some, sym, ◌∙◌, arith, rules}
+use Rattle.std.specs.Option.{option_cmp}
+use Rattle.std.specs.Ordering.{nat_cmp, ord_max}
 use Rattle.bus.specs.Bound.{IsBound}
 use Rattle.verdict.specs.declared.Verdict.{Verdict}
 use Rattle.verdict.specs.Judged.{VerdictIs}
@@ -17,7 +19,8 @@ loop-stream-preserved g c =
       | then-branch-identifier+in_ok-bound+in-Some w ↦
           let bound : IsBound m k w.in-Some.bound = rw w.in-Some.is at w.in_ok-bound.ensures.asked.1 in
           let most = larger c.loop-stream.most w.in-Some.bound in
-          rw (w.most-is ∙ w.max-most.ensures ∙ most.1) (gained_more m c.args.identifier k c.loop-stream.most w.in-Some.bound most.0 (sym is ∙ w.if-branch-identifier.true) bound most.2 c.loop-stream.invariant)
+          let is-larger : c.if-branch-identifier.most ≡ ord_max (option_cmp nat_cmp) c.loop-stream.most (Some w.in-Some.bound) = search rules in
+          rw (is-larger ∙ most.1) (gained_more m c.args.identifier k c.loop-stream.most w.in-Some.bound most.0 (sym is ∙ w.if-branch-identifier.true) bound most.2 c.loop-stream.invariant)
       | else-branch-identifier w ↦
           rw w.most-is (gained_past m c.args.identifier k c.loop-stream.most (λ e. w.if-branch-identifier.false (is ∙ e)) c.loop-stream.invariant)
     ]
