@@ -1,5 +1,6 @@
 pub mod Sharing
 pub mod Marks
+pub mod Words
 pub mod Parts
 pub mod Passing
 pub mod Numbers

@@ -13,7 +13,7 @@ use Rattle.line.specs.declared.tokens.Mark.{Mark}
 use Rattle.line.specs.Line.{Short}
 use Rattle.line.specs.Tokens.{Digit, byte_of, Numeral, NumberStands, Stands}
 use Rattle.line.specs.Forms.{shared, Form, given, number, Text, Leaves, Passes, Fault}
-use Rattle.line.specs.Expect.{Missed}
+use Rattle.line.specs.Reader.{Missed}
 use Rattle.line.proofs.Marks.{mark_below, first_byte}
 use Rattle.line.proofs.Sharing.{shared_none, shared_step}
 use Rattle.line.proofs.Passing.{pass, stop, pass_given, fault_given, fault_apart, Narrows, narrow_passes, narrow_faults}

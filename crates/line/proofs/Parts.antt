@@ -10,7 +10,8 @@ use Rattle.std.proofs.lemmas.Bool.{cases_eq, cases_lt}
 use Rattle.std.proofs.lemmas.List.{get_or_past, take_all, drop-drop, get_or-drop, get_or-take, length-take-le}
 use Rattle.line.specs.Tokens.{Letter, Digit, Stands, WordStands, NumberStands}
 use Rattle.line.specs.Forms.{shared}
-use Rattle.line.specs.Expect.{Asked, Missed}
+use Rattle.line.specs.Names.{Asked}
+use Rattle.line.specs.Reader.{Missed}
 use Rattle.line.proofs.Sharing.{shared_none, shared_words, shared_at_most, shared_part}
 use Rattle.line.proofs.Marks.{first_byte}
 

@@ -1,13 +1,16 @@
 -- How the reach of a text passes from the parts of a form to the whole. Assumes nothing.
-use Rattle.std.proofs.Common.{◌≡◌, ℕ, ◌+◌, ◌<◌, ◌≤◌, max, ◌⊎◌, List, [], ◌∷◌, ◌++◌, length, get_or, drop, IsErrAnd, Ok, Err, decimal, Result, sym, refl, ap, ◌∙◌, ap₂, inl, inr, append_assoc, arith, lit<, length-append}
+use Rattle.std.proofs.Common.{◌≡◌, ℕ, ◌+◌, ◌<◌, ◌≤◌, max, ◌⊎◌, List, [], ◌∷◌, ◌++◌, length, get_or, drop, IsErrAnd, Ok, Err, decimal, Result, sym, refl, ap, ◌∙◌, ap₂, inl, inr, append_assoc, arith, lit<, length-append, ◌≢◌}
 use Rattle.std.proofs.lemmas.Bool.{cases_lt}
 use Rattle.std.proofs.lemmas.Result.{err_from_is_err_and}
 use Rattle.plan.specs.declared.record.Record.{Record}
 use Rattle.line.specs.declared.line.LineFault.{LineFault}
+use Rattle.line.specs.declared.names.Name.{Name}
 use Rattle.line.specs.declared.reader.Reader.{Reader}
 use Rattle.line.specs.Tokens.{byte_of, Stands}
 use Rattle.line.specs.Forms.{shared, Form, end, given, number, choice, Text, Leads, Leaves, Passes, Fault}
-use Rattle.line.specs.Expect.{Asked, Missed, Skips, Past, Gives, either}
+use Rattle.line.specs.Names.{name_text}
+use Rattle.line.specs.Reader.{Missed, Skips, Past, Gives, either}
+use Rattle.line.proofs.Words.{some, begin_apart}
 use Rattle.line.proofs.Sharing.{shared_append, shared_short, shared_none}
 
 -- every form has a text
@@ -151,12 +154,15 @@ fault_choice {F} {G} {s} {at} {p} {q} f g = elim (cases_lt p q) [
 
 -- where one of two words that begin apart stands, the other shares nothing
 begins : (v s : List ℕ) (at n : ℕ) → 0 < length v → Stands (v ++ 32 ∷ []) s at n → get_or (drop at s) 0 0 ≡ get_or v 0 0
-begins [] s at n some h = absurd (omega arith)
-begins (c ∷ v) s at n some h = ap (λ u. get_or u 0 0) h.is
+begins [] s at n h k = absurd (omega arith)
+begins (c ∷ v) s at n h k = ap (λ u. get_or u 0 0) k.is
 
-apart_words : (F : Form) (v w s : List ℕ) (at n : ℕ) → Asked v → Asked w → (get_or v 0 0 ≡ get_or w 0 0 → ⊥) → Stands (v ++ 32 ∷ []) s at n → Apart (given (w ++ 32 ∷ []) F) s at
-apart_words F v [] s at n a b differ h = absurd (omega (arith, b.some))
-apart_words F v (c ∷ w) s at n a b differ h = apart_given (λ e. differ (sym (begins v s at n a.some h) ∙ e))
+apart_words : (F : Form) (v w s : List ℕ) (at n : ℕ) → 0 < length v → 0 < length w → get_or v 0 0 ≢ get_or w 0 0 → Stands (v ++ 32 ∷ []) s at n → Apart (given (w ++ 32 ∷ []) F) s at
+apart_words F v [] s at n a b differ h = absurd (omega arith)
+apart_words F v (c ∷ w) s at n a b differ h = apart_given (λ e. differ (sym (begins v s at n a h) ∙ e))
+
+apart_names : (F : Form) (v w : Name) (s : List ℕ) (at n : ℕ) → v ≢ w → Stands (name_text v ++ 32 ∷ []) s at n → Apart (given (name_text w ++ 32 ∷ []) F) s at
+apart_names F v w s at n differ h = apart_words F (name_text v) (name_text w) s at n (some v) (some w) (begin_apart v w differ) h
 
 -- a reader skips the bytes w
 abbrev pub Skipped : List ℕ → Reader → Reader → Type 0
@@ -178,17 +184,17 @@ pub then_skips : {v : List ℕ} {a b : Reader} (w : List ℕ) (c : Reader) (r : 
 then_skips w c (Ok u) h k = (k.0 ∙ h.0, stands_both h.1 (rw h.0 at k.1))
 then_skips w c (Err fault) h k = missed_second h.1 (rw h.0 at k)
 
-module _ {C : Type 0} {v w : List ℕ} {x y : C} {a b c : Reader} (K : C → Form) (f : Asked v) (g : Asked w) (differ : get_or v 0 0 ≡ get_or w 0 0 → ⊥) (bracket : Skipped (40 ∷ []) a b) where
-  pub pass_first : Skipped (v ++ 32 ∷ []) b c → Past (either (v, x) (w, y) K) a c (K x)
+module _ {C : Type 0} {v w : Name} {x y : C} {a b c : Reader} (K : C → Form) (differ : v ≢ w) (bracket : Skipped (40 ∷ []) a b) where
+  pub pass_first : Skipped (name_text v ++ 32 ∷ []) b c → Past (either (name_text v, x) (name_text w, y) K) a c (K x)
   pass_first h = pass_on (past_given bracket) (record {
     same = h.0;
-    passes = narrow_passes (omega (arith, h.1.ends, length-append v (32 ∷ []))) (narrow_first (apart_words (K y) v w b.text.now b.at c.at f g differ h.1)) (pass_given h.1);
+    passes = narrow_passes (omega (arith, h.1.ends, length-append (name_text v) (32 ∷ []))) (narrow_first (apart_names (K y) v w b.text.now b.at c.at differ h.1)) (pass_given h.1);
   })
 
-  pub pass_second : Skipped (w ++ 32 ∷ []) b c → Past (either (v, x) (w, y) K) a c (K y)
+  pub pass_second : Skipped (name_text w ++ 32 ∷ []) b c → Past (either (name_text v, x) (name_text w, y) K) a c (K y)
   pass_second h = pass_on (past_given bracket) (record {
     same = h.0;
-    passes = narrow_passes (omega (arith, h.1.ends, length-append w (32 ∷ []))) (narrow_second (apart_words (K x) w v b.text.now b.at c.at g f (λ e. differ (sym e)) h.1)) (pass_given h.1);
+    passes = narrow_passes (omega (arith, h.1.ends, length-append (name_text w) (32 ∷ []))) (narrow_second (apart_names (K x) w v b.text.now b.at c.at (λ e. differ (sym e)) h.1)) (pass_given h.1);
   })
 
 -- a value read after a step

@@ -8,7 +8,7 @@ use Rattle.line.specs.declared.line.Rest.{Rest}
 use Rattle.line.specs.declared.line.Rest.TheVariants.{Gap, Jitter}
 use Rattle.line.specs.declared.tokens.Mark.TheVariants.{Close, Space}
 use Rattle.line.specs.Forms.{Form, end, given, number}
-use Rattle.line.specs.Expect.{opening, amount, field, either}
+use Rattle.line.specs.Reader.{opening, amount, field, either}
 
 -- `G) (jitter `
 abbrev pub gap_form : (ℕ → Form) → Form

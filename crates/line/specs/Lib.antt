@@ -1,6 +1,7 @@
 pub mod Line
+pub mod Names
 pub mod Tokens
 pub mod Forms
-pub mod Expect
+pub mod Reader
 pub mod Grammar
 pub mod Number

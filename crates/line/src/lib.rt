@@ -2,6 +2,7 @@
 #![tactic(auto)]
 
 pub mod line;
+mod names;
 pub mod number;
 mod reader;
 mod tokens;

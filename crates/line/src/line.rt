@@ -1,8 +1,9 @@
 // Reads the line of a record.
-ghost use Rattle.line.specs.Expect.{Gives};
+ghost use Rattle.line.specs.Reader.{Gives};
 ghost use Rattle.line.specs.Grammar.{gap_form, timed_form, kind_form};
 ghost use Rattle.line.specs.Line.{Read};
 
+use crate::names::Name;
 use crate::reader::Reader;
 use crate::tokens::Mark;
 use plan::record::{Kind, Record};
@@ -32,7 +33,7 @@ fn read_gap(reader: &mut Reader<'_>) -> Result<u64, LineFault>
     ensures { Gives gap_form reader.old reader.new result }
 {
     let gap = reader.amount(Mark::Space)?;
-    reader.opening(b"jitter")?;
+    reader.opening(Name::Jitter)?;
     Ok(gap)
 }
 
@@ -42,7 +43,7 @@ fn read_timed(reader: &mut Reader<'_>) -> Result<Kind, LineFault>
 {
     let period = reader.number(Mark::Space)?;
     let offset = reader.amount(Mark::Space)?;
-    match reader.either((b"event", Rest::Gap), (b"jitter", Rest::Jitter))? {
+    match reader.either((Name::Event, Rest::Gap), (Name::Jitter, Rest::Jitter))? {
         Rest::Gap => {
             let gap = read_gap(reader)?;
             Ok(Kind::Mixed {
@@ -59,7 +60,7 @@ fn read_timed(reader: &mut Reader<'_>) -> Result<Kind, LineFault>
 fn read_kind(reader: &mut Reader<'_>) -> Result<Kind, LineFault>
     ensures { Gives kind_form reader.old reader.new result }
 {
-    match reader.either((b"timed", Start::Timed), (b"event", Start::Event))? {
+    match reader.either((Name::Timed, Start::Timed), (Name::Event, Start::Event))? {
         Start::Timed => read_timed(reader),
         Start::Event => {
             let gap = read_gap(reader)?;
@@ -73,13 +74,13 @@ pub fn read_line(text: &[u8]) -> Result<(Record, usize), LineFault>
     ensures { Read text.now result }
 {
     let mut reader = Reader { text, at: 0 };
-    reader.opening(b"message")?;
+    reader.opening(Name::Message)?;
     let identifier = reader.number(Mark::Space)?;
-    let node = reader.field(b"node", Mark::Space)?;
-    let bytes = reader.field(b"bytes", Mark::Space)?;
+    let node = reader.field(Name::Node, Mark::Space)?;
+    let bytes = reader.field(Name::Bytes, Mark::Space)?;
     let kind = read_kind(&mut reader)?;
     let jitter = reader.amount(Mark::Space)?;
-    let due = reader.field(b"due", Mark::Close)?;
+    let due = reader.field(Name::Due, Mark::Close)?;
     reader.mark(Mark::Feed)?;
     let record = Record {
         identifier,

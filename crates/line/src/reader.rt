@@ -1,11 +1,13 @@
 // Reads what a line asks for, by its tokens.
 ghost use Rattle.std.specs.Prelude.{◌≡◌, ◌<◌, [], ◌∷◌, ◌++◌, length, ◌≢◌, slice_index};
 ghost use Rattle.std.specs.Str.Parse.{digits_value};
-ghost use Rattle.line.specs.Expect.{Asked, Skips, Gives, opening, amount, field, either};
+ghost use Rattle.line.specs.Names.{name_text};
+ghost use Rattle.line.specs.Reader.{Skips, Gives, opening, amount, field, either};
 ghost use Rattle.line.specs.Forms.{shared, number};
 ghost use Rattle.line.specs.Tokens.{Letter, Digit, Numeral, WordStands, NumberStands, Found, byte_of};
 
 use crate::line::LineFault;
+use crate::names::Name;
 use crate::tokens::{Mark, Placed, Token};
 
 const MOST_DIGITS: usize = 10;
@@ -93,11 +95,11 @@ impl<'a> Reader<'a> {
         Ok(())
     }
 
-    // The word `word` and a space.
-    fn word(&mut self, word: &[u8]) -> Result<(), LineFault>
-        requires { Asked word.now }
-        ensures { Skips (word.now ++ 32 ∷ []) self.old self.new result }
+    // The word `name` and a space.
+    fn word(&mut self, name: Name) -> Result<(), LineFault>
+        ensures { Skips (name_text name ++ 32 ∷ []) self.old self.new result }
     {
+        let word = name.text();
         let placed = self.next_token()?;
         let Token::Word(found) = placed.token else {
             return Err(LineFault { at: placed.at });
@@ -133,18 +135,16 @@ impl<'a> Reader<'a> {
     }
 
     // `(NAME ` with the word `name`.
-    pub(crate) fn opening(&mut self, name: &[u8]) -> Result<(), LineFault>
-        requires { Asked name.now }
-        ensures { Skips (opening name.now) self.old self.new result }
+    pub(crate) fn opening(&mut self, name: Name) -> Result<(), LineFault>
+        ensures { Skips (opening (name_text name)) self.old self.new result }
     {
         self.mark(Mark::Open)?;
         self.word(name)
     }
 
     // `(NAME NUMBER)` and the mark `after`.
-    pub(crate) fn field(&mut self, name: &[u8], after: Mark) -> Result<u64, LineFault>
-        requires { Asked name.now }
-        ensures { Gives (field name.now after) self.old self.new result }
+    pub(crate) fn field(&mut self, name: Name, after: Mark) -> Result<u64, LineFault>
+        ensures { Gives (field (name_text name) after) self.old self.new result }
     {
         self.opening(name)?;
         self.amount(after)
@@ -153,13 +153,11 @@ impl<'a> Reader<'a> {
     // `(NAME ` with the word of one of the two: what it stands for.
     pub(crate) fn either<C: Copy>(
         &mut self,
-        first: (&[u8], C),
-        second: (&[u8], C),
+        first: (Name, C),
+        second: (Name, C),
     ) -> Result<C, LineFault>
-        requires first { Asked first.0.now }
-        requires second { Asked second.0.now }
-        requires apart { slice_index first.0.now 0 ≢ slice_index second.0.now 0 }
-        ensures { Gives (either (first.entry.0.now, first.entry.1) (second.entry.0.now, second.entry.1)) self.old self.new result }
+        requires { first.0 ≢ second.0 }
+        ensures { Gives (either (name_text first.0, first.1) (name_text second.0, second.1)) self.old self.new result }
     {
         self.mark(Mark::Open)?;
         let inside = *self;

@@ -2,7 +2,7 @@
 
 // What stands between words and numbers, a byte each.
 #[derive(Clone, Copy, PartialEq, Eq, Debug)]
-pub enum Mark {
+pub(crate) enum Mark {
     Open,
     Close,
     Space,
@@ -10,14 +10,15 @@ pub enum Mark {
 }
 
 #[derive(Clone, Copy, PartialEq, Eq, Debug)]
-pub enum Token<'a> {
+pub(crate) enum Token<'a> {
     Mark(Mark),
     Word(&'a [u8]),
     Number(&'a [u8]),
 }
 
+// By a rule of the project a token is handed out with its place, though the reader has it too.
 #[derive(Clone, Copy, PartialEq, Eq, Debug)]
-pub struct Placed<'a> {
-    pub token: Token<'a>,
-    pub at: usize,
+pub(crate) struct Placed<'a> {
+    pub(crate) token: Token<'a>,
+    pub(crate) at: usize,
 }

@@ -1,4 +1,4 @@
-use Rattle.line.specs.Expect.{Past}
+use Rattle.line.specs.Reader.{Past}
 use Rattle.line.specs.Grammar.{line_rest, line_form}
 use Rattle.line.proofs.Lines.{line_reads, fault_read}
 use Rattle.line.proofs.Passing.{past_given, pass_on, stop_on, fault_given}

@@ -1,6 +1,6 @@
 use Rattle.plan.specs.declared.record.Kind.{Kind}
 use Rattle.line.specs.Forms.{Form}
-use Rattle.line.specs.Expect.{Past}
+use Rattle.line.specs.Reader.{Past}
 use Rattle.line.specs.Grammar.{timed_form, timed_rest}
 use Rattle.line.proofs.Passing.{pass_on, stop_on, fault_gives}
 use Rattle.line.proofs.line.read_timed.Goals as goal

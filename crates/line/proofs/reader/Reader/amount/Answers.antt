@@ -1,4 +1,4 @@
-use Rattle.line.specs.Expect.{amount}
+use Rattle.line.specs.Reader.{amount}
 use Rattle.line.proofs.Passing.{past_given, pass_on, stop_on, fault_given, fault_gives}
 use Rattle.line.proofs.reader.Reader.amount.Goals as goal
 

@@ -1,17 +1,11 @@
 -- What it is to read what a line asks for at a place. Assumes nothing.
 use Rattle.std.specs.Prelude.{◌≡◌, ℕ, ◌<◌, List, [], ◌∷◌, ◌++◌, length, drop, Ok, Err, Result}
-use Rattle.std.specs.List.{AllByRecursion}
 use Rattle.line.specs.declared.line.LineFault.{LineFault}
 use Rattle.line.specs.declared.reader.Reader.{Reader}
 use Rattle.line.specs.declared.tokens.Mark.{Mark}
 use Rattle.line.specs.declared.tokens.Mark.TheVariants.{Close}
-use Rattle.line.specs.Tokens.{Letter, byte_of, Stands}
+use Rattle.line.specs.Tokens.{byte_of, Stands}
 use Rattle.line.specs.Forms.{shared, Form, given, number, choice, reach, Passes, Fault}
-
--- a word as it may be asked for
-pub record Asked (w : List ℕ) : Type 0 where
-  pub some : 0 < length w
-  pub letters : AllByRecursion Letter w
 
 -- the bytes w do not stand at `at`: another byte, or the end, comes first at p
 pub record Missed (w s : List ℕ) (at p : ℕ) : Type 0 where
