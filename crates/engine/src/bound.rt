@@ -16,14 +16,14 @@ pub fn bound<T: Traffic>(traffic: &T, stream: u32) -> Result<Option<u32>, Refusa
     let profile = Profile::read(traffic, stream)?;
     let node = profile.stream.node;
     let mut search = Search::new(profile);
-    let Some(first) = search.worst(0)? else {
+    let Some(first) = search.worst(0) else {
         return Ok(None);
     };
     let mut most = first;
     // The turning phases are gone through as for a group, but here each changes the search, and one may end it.
     let mut from = 1;
-    while let Some(turn) = turn_from(traffic, node, from)? {
-        let Some(here) = search.worst(turn)? else {
+    while let Some(turn) = turn_from(traffic, node, from) {
+        let Some(here) = search.worst(turn) else {
             return Ok(None);
         };
         most = most.max(here);

@@ -1,12 +1,11 @@
 // What the streams of a group may send before the frames of a stream, in bits.
-ghost use Rattle.std.specs.Prelude.{◌≡◌, ◌<◌, Ok};
+ghost use Rattle.std.specs.Prelude.{◌≡◌, ◌<◌};
 ghost use Rattle.bus.specs.Bound.{load};
 ghost use Rattle.engine.specs.Group.{Members, sent, heaviest_sent};
 
 use crate::turn::turn_from;
 use crate::window::Window;
 use arrayvec::ArrayVec;
-use bus::refusal::Refusal;
 use bus::traffic::Traffic;
 
 // A traffic has no more streams than this.
@@ -20,44 +19,39 @@ pub(crate) struct Group {
 }
 
 // What a stream may send in a window that begins at the phase.
-fn load<T: Traffic>(traffic: &T, stream: u32, phase: u32, window: Window) -> Result<u64, Refusal>
+fn load<T: Traffic>(traffic: &T, stream: u32, phase: u32, window: Window) -> u64
     requires { (stream < (T.meaning traffic.now).streams) × (phase < (T.meaning traffic.now).cycle ((T.meaning traffic.now).node stream)) }
-    ensures { result ≡ Ok (load (T.meaning traffic.now) stream phase window.bits) }
+    ensures { result ≡ load (T.meaning traffic.now) stream phase window.bits }
 {
-    let count = traffic.count(stream, phase, window.bits)?;
-    Ok(u64::from(count) * u64::from(traffic.longest(stream)?))
+    let count = traffic.count(stream, phase, window.bits).unwrap();
+    u64::from(count) * u64::from(traffic.longest(stream).unwrap())
 }
 
 impl Group {
     // What the group may send in a window that begins at the phase.
-    pub(crate) fn demand<T: Traffic>(
-        &self,
-        traffic: &T,
-        phase: u32,
-        window: Window,
-    ) -> Result<u64, Refusal>
+    pub(crate) fn demand<T: Traffic>(&self, traffic: &T, phase: u32, window: Window) -> u64
         requires { (Members (T.meaning traffic.now) self.now) × (phase < (T.meaning traffic.now).cycle self.now.node) }
-        ensures { result ≡ Ok (sent (T.meaning traffic.now) self.now phase window.bits) }
+        ensures { result ≡ sent (T.meaning traffic.now) self.now phase window.bits }
     {
         let mut sum = 0;
         for &stream in self.streams.as_slice() {
-            sum += load(traffic, stream, phase, window)?;
+            sum += load(traffic, stream, phase, window);
         }
-        Ok(sum)
+        sum
     }
 
     // The most that the group may send in a window, over all phases of its node. Phase 0 or a turning phase has it.
-    pub(crate) fn heaviest<T: Traffic>(&self, traffic: &T, window: Window) -> Result<u64, Refusal>
+    pub(crate) fn heaviest<T: Traffic>(&self, traffic: &T, window: Window) -> u64
         requires { (Members (T.meaning traffic.now) self.now) × (self.now.node < 16) }
-        ensures { result ≡ Ok (heaviest_sent (T.meaning traffic.now) self.now window.bits) }
+        ensures { result ≡ heaviest_sent (T.meaning traffic.now) self.now window.bits }
     {
-        let mut most = self.demand(traffic, 0, window)?;
+        let mut most = self.demand(traffic, 0, window);
         // Each turning phase is looked for from the one before, so no range gives them.
         let mut from = 1;
-        while let Some(turn) = turn_from(traffic, self.node, from)? {
-            most = most.max(self.demand(traffic, turn, window)?);
+        while let Some(turn) = turn_from(traffic, self.node, from) {
+            most = most.max(self.demand(traffic, turn, window));
             from = turn + 1;
         }
-        Ok(most)
+        most
     }
 }

@@ -1,22 +1,17 @@
 // The phases of a node after which its places may grow.
 ghost use Rattle.std.specs.Prelude.{◌<◌};
-ghost use Rattle.bus.specs.Asked.{TurnFound};
+ghost use Rattle.bus.specs.Asked.{FirstTurn};
 
-use bus::refusal::Refusal;
 use bus::traffic::Traffic;
 
 // The first turning phase of a node from a phase on, or none to the cycle's end.
-pub(crate) fn turn_from<T: Traffic>(
-    traffic: &T,
-    node: u32,
-    from: u32,
-) -> Result<Option<u32>, Refusal>
+pub(crate) fn turn_from<T: Traffic>(traffic: &T, node: u32, from: u32) -> Option<u32>
     requires { node < 16 }
-    ensures { TurnFound (T.meaning traffic.now) node from result }
+    ensures { FirstTurn (T.meaning traffic.now) node from result }
 {
-    if from < traffic.cycle(node)? {
-        traffic.next_turn(node, from)
+    if from < traffic.cycle(node).unwrap() {
+        traffic.next_turn(node, from).unwrap()
     } else {
-        Ok(None)
+        None
     }
 }
