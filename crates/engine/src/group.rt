@@ -3,7 +3,7 @@ ghost use Rattle.std.specs.Prelude.{◌≡◌, ◌<◌};
 ghost use Rattle.bus.specs.Bound.{load};
 ghost use Rattle.engine.specs.Group.{Members, sent, heaviest_sent};
 
-use crate::turn::turn_from;
+use crate::turn::Turns;
 use crate::window::Window;
 use arrayvec::ArrayVec;
 use bus::traffic::Traffic;
@@ -46,11 +46,8 @@ impl Group {
         ensures { result ≡ heaviest_sent (T.meaning traffic.now) self.now window.bits }
     {
         let mut most = self.demand(traffic, 0, window);
-        // Each turning phase is looked for from the one before, so no range gives them.
-        let mut from = 1;
-        while let Some(turn) = turn_from(traffic, self.node, from) {
+        for turn in Turns::new(traffic, self.node) {
             most = most.max(self.demand(traffic, turn, window));
-            from = turn + 1;
         }
         most
     }

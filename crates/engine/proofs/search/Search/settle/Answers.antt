@@ -19,7 +19,7 @@ returns-in_err-window-clause-window g c =
     let over : horizon < c.need-wanted.result = c.in_err-window.ensures in
     let s = c.args.self.now.profile.stream in
     let never : (w : ℕ) → w ≤ horizon → Settles (g.T.Traffic.meaning s.traffic.now) s.number c.args.phase c.args.instance w → ⊥ =
-        λ w within settles. omega (arith, none_below w settles) in
+    λ w within settles. omega (arith, none_below w settles) in
     rw c.from_residual.ensures never
 
 pub loop-window-preserved : goal.loop-window-preserved
