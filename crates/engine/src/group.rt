@@ -11,14 +11,16 @@ use bus::traffic::Traffic;
 // A traffic has no more streams than this.
 const MOST_STREAMS: usize = 128;
 
-// Some streams of a node.
+// Some streams of a node. A group does not hold its traffic: a vector of fixed capacity fills its free places by Default, which
+// is here for that alone, and a reference has none.
 #[derive(Default, Drop)]
 pub(crate) struct Group {
     pub(crate) node: u32,
     pub(crate) streams: ArrayVec<u32, MOST_STREAMS>,
 }
 
-// What a stream may send in a window that begins at the phase.
+// What a stream may send in a window that begins at the phase. That a phase is one of its node stands in each contract: a type
+// for it would carry the traffic and the node with every phase.
 fn load<T: Traffic>(traffic: &T, stream: u32, phase: u32, window: Window) -> u64
     requires { (stream < (T.meaning traffic.now).streams) × (phase < (T.meaning traffic.now).cycle ((T.meaning traffic.now).node stream)) }
     ensures { result ≡ load (T.meaning traffic.now) stream phase window.bits }

@@ -1,10 +1,10 @@
 // The search for the responses of a stream, window by window.
 ghost use Rattle.std.specs.Prelude.{◌≡◌, ◌<◌};
+ghost use Rattle.std.proofs.Props.{props};
 ghost use Rattle.bus.specs.Bound.{need, others};
 ghost use Rattle.bus.specs.Search.{Starts};
 ghost use Rattle.engine.specs.Bounded.{Worst};
 ghost use Rattle.engine.specs.Kept.{Keeps};
-ghost use Rattle.std.proofs.Props.{props};
 ghost use Rattle.engine.specs.Window.{Settled, Asks};
 
 use crate::profile::Profile;
@@ -21,7 +21,8 @@ struct Kept {
 }
 
 // What the other nodes send depends on nothing but the window, so it is kept of windows that were worked out before. A window
-// has one slot, which keeps the last that came to it.
+// has one slot, which keeps the last that came to it. `bound` takes no memory from the heap, so this is no map. Each call says
+// that the profile stays as it is, since a field cannot speak of what it was before.
 #[derive(Drop)]
 pub(crate) struct Search<'a, T: Traffic> {
     pub(crate) profile: Profile<'a, T>,

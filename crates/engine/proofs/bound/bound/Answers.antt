@@ -25,22 +25,24 @@ loop-turn-init g c =
 pub loop-turn-preserved : goal.loop-turn-preserved
 loop-turn-preserved g c =
     let at = goal.at.loop-turn-preserved g c in
+    let m = g.T.Traffic.meaning c.args.traffic.now in
     let so = c.loop-turn.invariant in
-    let first : FirstTurn (g.T.Traffic.meaning c.args.traffic.now) ((g.T.Traffic.meaning c.args.traffic.now).node c.args.stream) c.loop-turn.turn-iterator.from (Some c.in-Some-turn.turn) =
-        rw (c.in-Some-turn.is, so.2, so.3, node_is g at.In_ok-profile) at c.next.ensures.steps.0 in
-    let on = rw c.in-Some-turn.is at c.next.ensures.steps.1 in
+    let steps = c.next.ensures.steps in
+    let first : FirstTurn m (m.node c.args.stream) c.loop-turn.turn-iterator.from (Some c.in-Some-turn.turn) = rw (c.in-Some-turn.is, so.2, so.3, node_is g at.In_ok-profile) at steps.0 in
+    let on = rw c.in-Some-turn.is at steps.1 in
     let here = rw (c.in-Some-worst.is, so.0, so.1) at c.worst-in-loop-turn.ensures.worst in
-    let bounding = bounding_on _ (g.met.T.Traffic.limits c.args.traffic.now) (g.met.T.Traffic.laws c.args.traffic.now) c.args.stream (known g at.In_ok-profile) _ _ _ _ _ so.4 first here in
+    let bounding = bounding_on m (g.met.T.Traffic.limits c.args.traffic.now) (g.met.T.Traffic.laws c.args.traffic.now) c.args.stream (known g at.In_ok-profile) _ _ _ _ _ so.4 first here in
     rw c.worst-in-loop-turn.ensures.same (so.0, so.1, on.0 ∙ so.2, on.1 ∙ so.3, rw (on.2, c.max-most.ensures) bounding)
 
 pub returns : goal.returns
 returns g c =
     let at = goal.at.returns g c in
+    let m = g.T.Traffic.meaning c.args.traffic.now in
     let limits = g.met.T.Traffic.limits c.args.traffic.now in
     let laws = g.met.T.Traffic.laws c.args.traffic.now in
     let there = known g at.In_ok-profile in
     let so = c.loop-turn.invariant in
-    let none : FirstTurn (g.T.Traffic.meaning c.args.traffic.now) ((g.T.Traffic.meaning c.args.traffic.now).node c.args.stream) c.loop-turn.turn-iterator.from None =
-        rw (c.in-None.is, so.2, so.3, node_is g at.In_ok-profile) at c.next.ensures.steps.0 in
-    let is_bound = bounding_end _ limits laws c.args.stream there _ _ _ so.4 none in
-    record { asked = (there, is_bound); delivered = bounds_hold _ limits laws c.args.stream _ there is_bound }
+    let steps = c.next.ensures.steps in
+    let none : FirstTurn m (m.node c.args.stream) c.loop-turn.turn-iterator.from None = rw (c.in-None.is, so.2, so.3, node_is g at.In_ok-profile) at steps.0 in
+    let is_bound = bounding_end m limits laws c.args.stream there _ _ _ so.4 none in
+    record { asked = (there, is_bound); delivered = bounds_hold m limits laws c.args.stream _ there is_bound }
