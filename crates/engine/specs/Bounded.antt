@@ -9,10 +9,9 @@ use Rattle.bus.specs.Run.{Delivered}
 
 module _ (m : Meaning) where
   -- the largest response at a phase, or that something reached never settles
-  abbrev pub Worst : ℕ → ℕ → Result (Option ℕ) Refusal → Type 0
-  Worst i p (Ok (Some b)) = SettledPhase m i p b
-  Worst i p (Ok None) = Unsettled m i
-  Worst i p (Err e) = ⊥
+  abbrev pub Worst : ℕ → ℕ → Option ℕ → Type 0
+  Worst i p (Some b) = SettledPhase m i p b
+  Worst i p None = Unsettled m i
 
   -- what an answer says of a stream: its bound, or that it is unsettled
   abbrev pub OutcomeIs : ℕ → Option ℕ → Type 0

@@ -1,6 +1,5 @@
 -- What is asked of a phase and an instance, and what the search for a window finds. Assumes nothing.
-use Rattle.std.specs.Prelude.{ℕ, ◌<◌, ◌≤◌, Some, None, Ok, Err, Option, Result}
-use Rattle.bus.specs.declared.refusal.Refusal.{Refusal}
+use Rattle.std.specs.Prelude.{ℕ, ◌<◌, ◌≤◌, Some, None, Option}
 use Rattle.bus.specs.Meaning.{Meaning}
 use Rattle.bus.specs.Bound.{horizon, Settles, SettlingWindow}
 use Rattle.engine.specs.declared.window.Window.{Window}
@@ -13,7 +12,6 @@ module _ (m : Meaning) where
     pub few : instance ≤ 4194306
 
   -- the settling window, or that there is none
-  abbrev pub Settled : ℕ → ℕ → ℕ → Result (Option Window) Refusal → Type 0
-  Settled i p q (Ok (Some w)) = SettlingWindow m i p q w.bits
-  Settled i p q (Ok None) = (w : ℕ) → w ≤ horizon → Settles m i p q w → ⊥
-  Settled i p q (Err e) = ⊥
+  abbrev pub Settled : ℕ → ℕ → ℕ → Option Window → Type 0
+  Settled i p q (Some w) = SettlingWindow m i p q w.bits
+  Settled i p q None = (w : ℕ) → w ≤ horizon → Settles m i p q w → ⊥

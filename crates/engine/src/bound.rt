@@ -3,7 +3,7 @@ ghost use Rattle.engine.specs.Bounded.{BoundAsked, BoundDelivered};
 
 use crate::profile::Profile;
 use crate::search::Search;
-use crate::turn::turn_from;
+use crate::turn::Turns;
 use bus::refusal::Refusal;
 use bus::traffic::Traffic;
 
@@ -16,18 +16,15 @@ pub fn bound<T: Traffic>(traffic: &T, stream: u32) -> Result<Option<u32>, Refusa
     let profile = Profile::read(traffic, stream)?;
     let node = profile.stream.node;
     let mut search = Search::new(profile);
-    let Some(first) = search.worst(0)? else {
+    let Some(first) = search.worst(0) else {
         return Ok(None);
     };
     let mut most = first;
-    // The turning phases are gone through as for a group, but here each changes the search, and one may end it.
-    let mut from = 1;
-    while let Some(turn) = turn_from(traffic, node, from)? {
-        let Some(here) = search.worst(turn)? else {
+    for turn in Turns::new(traffic, node) {
+        let Some(here) = search.worst(turn) else {
             return Ok(None);
         };
         most = most.max(here);
-        from = turn + 1;
     }
     Ok(Some(most))
 }

@@ -1,5 +1,5 @@
 // What is worked out once of the stream whose bound is asked for.
-ghost use Rattle.std.specs.Prelude.{◌≡◌, ◌<◌, Ok, MatchResult};
+ghost use Rattle.std.specs.Prelude.{◌≡◌, ◌<◌, MatchResult};
 ghost use Rattle.bus.specs.declared.refusal.Refusal.TheVariants.{Question};
 ghost use Rattle.bus.specs.Bound.{blocking as most_blocking, others, own};
 ghost use Rattle.engine.specs.Group.{Gathers, Elsewhere};
@@ -29,9 +29,9 @@ impl<'a, T: Traffic> Profile<'a, T> {
         ensures { MatchResult result (λ p. (p.stream.traffic.now ≡ traffic.now) × (p.stream.number ≡ number)) (λ e. (e ≡ Question) × (number < (T.meaning traffic.now).streams → ⊥)) }
     {
         let stream = Stream::read(traffic, number)?;
-        let blocking = stream.blocking()?;
-        let beside = stream.gather(stream.node)?;
-        let elsewhere = stream.elsewhere()?;
+        let blocking = stream.blocking();
+        let beside = stream.gather(stream.node);
+        let elsewhere = stream.elsewhere();
         Ok(Profile {
             stream,
             blocking,
@@ -41,20 +41,20 @@ impl<'a, T: Traffic> Profile<'a, T> {
     }
 
     // What the streams of the other nodes may send before the stream's frame in the window.
-    pub(crate) fn others(&self, window: Window) -> Result<u64, Refusal>
-        ensures { let s = self.now.stream in result ≡ Ok (others (T.meaning s.traffic.now) s.number window.bits) }
+    pub(crate) fn others(&self, window: Window) -> u64
+        ensures { let s = self.now.stream in result ≡ others (T.meaning s.traffic.now) s.number window.bits }
     {
         let mut sum = 0;
         for group in self.elsewhere.as_slice() {
-            sum += group.heaviest(self.stream.traffic, window)?;
+            sum += group.heaviest(self.stream.traffic, window);
         }
-        Ok(sum)
+        sum
     }
 
     // What the other streams of its own node may send before it in the window, which begins at the phase.
-    pub(crate) fn own(&self, phase: u32, window: Window) -> Result<u64, Refusal>
+    pub(crate) fn own(&self, phase: u32, window: Window) -> u64
         requires { let s = self.now.stream in phase < (T.meaning s.traffic.now).cycle ((T.meaning s.traffic.now).node s.number) }
-        ensures { let s = self.now.stream in result ≡ Ok (own (T.meaning s.traffic.now) s.number phase window.bits) }
+        ensures { let s = self.now.stream in result ≡ own (T.meaning s.traffic.now) s.number phase window.bits }
     {
         self.beside.demand(self.stream.traffic, phase, window)
     }

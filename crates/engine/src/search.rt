@@ -1,15 +1,14 @@
 // The search for the responses of a stream, window by window.
-ghost use Rattle.std.specs.Prelude.{◌≡◌, ◌<◌, ◌≤◌, Ok};
+ghost use Rattle.std.specs.Prelude.{◌≡◌, ◌<◌};
+ghost use Rattle.std.proofs.Props.{props};
 ghost use Rattle.bus.specs.Bound.{need, others};
 ghost use Rattle.bus.specs.Search.{Starts};
 ghost use Rattle.engine.specs.Bounded.{Worst};
 ghost use Rattle.engine.specs.Kept.{Keeps};
-ghost use Rattle.std.proofs.Props.{props};
 ghost use Rattle.engine.specs.Window.{Settled, Asks};
 
 use crate::profile::Profile;
 use crate::window::Window;
-use bus::refusal::Refusal;
 use bus::traffic::Traffic;
 
 const SLOTS: usize = 256;
@@ -22,7 +21,8 @@ struct Kept {
 }
 
 // What the other nodes send depends on nothing but the window, so it is kept of windows that were worked out before. A window
-// has one slot, which keeps the last that came to it.
+// has one slot, which keeps the last that came to it. `bound` takes no memory from the heap, so this is no map. Each call says
+// that the profile stays as it is, since a field cannot speak of what it was before.
 #[derive(Drop)]
 pub(crate) struct Search<'a, T: Traffic> {
     pub(crate) profile: Profile<'a, T>,
@@ -41,43 +41,38 @@ impl<'a, T: Traffic> Search<'a, T> {
     }
 
     // What the other nodes may send in the window, from its slot where that has it.
-    fn recall(&mut self, window: Window) -> Result<u64, Refusal>
-        ensures value { let s = self.old.profile.stream in result ≡ Ok (others (T.meaning s.traffic.now) s.number window.bits) }
+    fn recall(&mut self, window: Window) -> u64
+        ensures value { let s = self.old.profile.stream in result ≡ others (T.meaning s.traffic.now) s.number window.bits }
         ensures same { self.new.profile ≡ self.old.profile }
     {
         let slot = window.bits as usize % SLOTS;
         if let Some(kept) = self.slots[slot]
             && kept.window == window.bits
         {
-            return Ok(kept.sent);
+            return kept.sent;
         }
-        let sent = self.profile.others(window)?;
+        let sent = self.profile.others(window);
         self.slots[slot] = Some(Kept {
             window: window.bits,
             sent,
         });
-        Ok(sent)
+        sent
     }
 
     // What may be sent in the window before the instance of the stream.
-    fn need(&mut self, phase: u32, instance: u32, window: Window) -> Result<u64, Refusal>
+    fn need(&mut self, phase: u32, instance: u32, window: Window) -> u64
         requires { let s = self.old.profile.stream in Asks (T.meaning s.traffic.now) s.number phase instance }
-        ensures value { let s = self.old.profile.stream in result ≡ Ok (need (T.meaning s.traffic.now) s.number phase instance window.bits) }
+        ensures value { let s = self.old.profile.stream in result ≡ need (T.meaning s.traffic.now) s.number phase instance window.bits }
         ensures same { self.new.profile ≡ self.old.profile }
     {
-        let others = self.recall(window)?;
-        let own = self.profile.own(phase, window)?;
+        let others = self.recall(window);
+        let own = self.profile.own(phase, window);
         let earlier = u64::from(instance - 1) * u64::from(self.profile.stream.longest);
-        Ok(u64::from(self.profile.blocking) + others + own + earlier)
+        u64::from(self.profile.blocking) + others + own + earlier
     }
 
     // The least window that the instance settles in, or None to the horizon. No window below `start` may settle it.
-    fn settle(
-        &mut self,
-        phase: u32,
-        instance: u32,
-        start: Window,
-    ) -> Result<Option<Window>, Refusal>
+    fn settle(&mut self, phase: u32, instance: u32, start: Window) -> Option<Window>
         requires asks { let s = self.old.profile.stream in Asks (T.meaning s.traffic.now) s.number phase instance }
         requires starts { let s = self.old.profile.stream in Starts (T.meaning s.traffic.now) s.number phase instance start.bits }
         ensures window { let s = self.old.profile.stream in Settled (T.meaning s.traffic.now) s.number phase instance result }
@@ -85,38 +80,38 @@ impl<'a, T: Traffic> Search<'a, T> {
     {
         let mut window = start;
         loop {
-            let wanted = self.need(phase, instance, window)?;
+            let wanted = self.need(phase, instance, window);
             if wanted <= u64::from(window.bits) {
-                return Ok(Some(window));
+                return Some(window);
             }
-            let Some(wider) = Window::up_to_horizon(wanted) else {
-                return Ok(None);
-            };
-            window = wider;
+            window = Window::up_to_horizon(wanted)?;
         }
     }
 
     // The largest response of the instances that are listed at the phase, or None where a reached one never settles. Each
     // starts from the window of the one before.
-    pub(crate) fn worst(&mut self, phase: u32) -> Result<Option<u32>, Refusal>
+    pub(crate) fn worst(&mut self, phase: u32) -> Option<u32>
         requires { let s = self.old.profile.stream in phase < (T.meaning s.traffic.now).cycle ((T.meaning s.traffic.now).node s.number) }
         ensures worst { let s = self.old.profile.stream in Worst (T.meaning s.traffic.now) s.number phase result }
         ensures same { self.new.profile ≡ self.old.profile }
     {
         let mut most = 0;
         let mut start = Window::new(self.profile.blocking);
-        // Which instances are listed comes out on the way, so no range counts them.
+        // A range of instances would have an end that is never reached, and owe an answer after it.
         let mut instance = 1;
-        while let Some(window) = self.settle(phase, instance, start)? {
+        loop {
+            let window = self.settle(phase, instance, start)?;
             let stream = &self.profile.stream;
-            let place = stream.traffic.place(stream.number, phase, instance)?;
+            let place = stream
+                .traffic
+                .place(stream.number, phase, instance)
+                .unwrap();
             if place > i64::from(window.bits) {
-                return Ok(Some(most));
+                return Some(most);
             }
             most = most.max(stream.response(window, place));
             start = window;
             instance += 1;
         }
-        Ok(None)
     }
 }

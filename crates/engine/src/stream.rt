@@ -1,5 +1,5 @@
 // The stream whose bound is asked for, and the streams that can go before its frames.
-ghost use Rattle.std.specs.Prelude.{◌≡◌, ◌+◌, ◌<◌, ◌≤◌, pos, ◌-ℤ◌, neg_ℤ, ◌≤ℤ◌, Ok, MatchResult};
+ghost use Rattle.std.specs.Prelude.{◌≡◌, ◌+◌, ◌<◌, ◌≤◌, pos, ◌-ℤ◌, neg_ℤ, ◌≤ℤ◌, MatchResult};
 ghost use Rattle.bus.specs.declared.refusal.Refusal.TheVariants.{Question};
 ghost use Rattle.bus.specs.Bound.{blocking};
 ghost use Rattle.engine.specs.Group.{Gathers, Elsewhere, rival};
@@ -43,57 +43,55 @@ impl<'a, T: Traffic> Stream<'a, T> {
     }
 
     // The longest frame that may be on the wire when one of the stream is queued.
-    pub(crate) fn blocking(&self) -> Result<u32, Refusal>
-        ensures { result ≡ Ok (blocking (T.meaning self.now.traffic.now) self.now.number) }
+    pub(crate) fn blocking(&self) -> u32
+        ensures { result ≡ blocking (T.meaning self.now.traffic.now) self.now.number }
     {
         let mut most = 0;
         for other in 0..self.traffic.streams() {
-            if self.identifier <= self.traffic.identifier(other)? {
-                most = self.traffic.longest(other)?.max(most);
+            if self.identifier <= self.traffic.identifier(other).unwrap() {
+                most = self.traffic.longest(other).unwrap().max(most);
             }
         }
-        Ok(most)
+        most
     }
 
     // Whether `other` is another stream of the node with the same or a lower identifier.
-    fn is_rival(&self, node: u32, other: u32) -> Result<bool, Refusal>
+    fn is_rival(&self, node: u32, other: u32) -> bool
         requires { other < (T.meaning self.now.traffic.now).streams }
-        ensures { result ≡ Ok (rival (T.meaning self.now.traffic.now) self.now.number node other) }
+        ensures { result ≡ rival (T.meaning self.now.traffic.now) self.now.number node other }
     {
-        Ok(
-            self.traffic.node(other)? == node
-                && other != self.number
-                && self.traffic.identifier(other)? <= self.identifier,
-        )
+        self.traffic.node(other).unwrap() == node
+            && other != self.number
+            && self.traffic.identifier(other).unwrap() <= self.identifier
     }
 
     // The streams of the node that can go before the stream's frames.
-    pub(crate) fn gather(&self, node: u32) -> Result<Group, Refusal>
-        ensures { MatchResult result (Gathers (T.meaning self.now.traffic.now) self.now.number node) (λ _. ⊥) }
+    pub(crate) fn gather(&self, node: u32) -> Group
+        ensures { Gathers (T.meaning self.now.traffic.now) self.now.number node result }
     {
         let mut streams = ArrayVec::new();
         for other in 0..self.traffic.streams() {
-            if self.is_rival(node, other)? {
+            if self.is_rival(node, other) {
                 streams.push(other);
             }
         }
-        Ok(Group { node, streams })
+        Group { node, streams }
     }
 
     // The groups of the other nodes that have such streams.
-    pub(crate) fn elsewhere(&self) -> Result<ArrayVec<Group, NODES>, Refusal>
-        ensures { MatchResult result (λ groups. Elsewhere (T.meaning self.now.traffic.now) self.now.number 16 groups.items) (λ _. ⊥) }
+    pub(crate) fn elsewhere(&self) -> ArrayVec<Group, NODES>
+        ensures { Elsewhere (T.meaning self.now.traffic.now) self.now.number 16 result.items }
     {
         let mut groups = ArrayVec::new();
         for node in 0..NODES as u32 {
             if node != self.node {
-                let group = self.gather(node)?;
+                let group = self.gather(node);
                 if !group.streams.is_empty() {
                     groups.push(group);
                 }
             }
         }
-        Ok(groups)
+        groups
     }
 
     // The time from the arrival of an instance at its place to the end of its frame after the window.

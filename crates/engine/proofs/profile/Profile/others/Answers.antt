@@ -1,4 +1,4 @@
-use Rattle.std.proofs.Common.{Ok, ap, ◌∙◌, refl, arith}
+use Rattle.std.proofs.Common.{◌∙◌, refl, arith}
 use Rattle.std.proofs.lemmas.List.{take_all}
 use Rattle.std.proofs.lemmas.List.Sums.{sum_by_more_le}
 use Rattle.bus.proofs.Demands.{others_all}
@@ -27,4 +27,4 @@ returns g c =
     let past = rw c.as_slice-group-items.ensures.value at c.loop-group-test.false in
     let all = take_all c.loop-group.group-index p.elsewhere.items past in
     let whole = p.other_groups.whole c.args.window.bits ∙ others_all m p.stream.number c.args.window.bits 16 refl in
-    ap Ok (c.loop-group.invariant ∙ rw all whole)
+    c.loop-group.invariant ∙ rw all whole
