@@ -4,7 +4,7 @@ use Rattle.std.specs.Bool.{then_some}
 use Rattle.std.specs.Option.{option_map}
 use Rattle.std.specs.List.{AllByRecursion, filter, filter_map, cons_option, fold, reduce}
 use Rattle.std.proofs.ByRecursion.{All-get_or}
-use Rattle.std.proofs.lemmas.Bool.{or_left, or_right, or_from, cases_Bool, cases_lt, ltb-true, ltb-false, both_ways}
+use Rattle.std.proofs.lemmas.Bool.{or_left, or_right, or_from, cases_lt, ltb-true, ltb-false, both_ways}
 use Rattle.clock.specs.declared.timing.Timing.{Timing}
 use Rattle.clock.specs.declared.timing.Timing.TheVariants.{Timed, Event}
 use Rattle.clock.specs.Timing.{Paced, lead, same, turns_at, FirstTurning}
@@ -124,11 +124,14 @@ module _ (n p : ℕ) where
       (rest.0, or_right (one t) (more t) rest.1, λ k low high. or_from (one k) (more k) (told k low) (rest.2 k low high))
   first_on one more (Some x) xs told rest all =
       let r = all x in
-      let t = fold min x xs in
-      (r.low told.0, elim r.here [
-        | inl same ↦ or_left (one t) (more t) (subst (λ k. one k ≡ true) (sym same) told.1)
-        | inr on ↦ or_right (one t) (more t) on
-      ], λ k low high. or_from (one k) (more k) (told.2 k low (let h = r.high in omega arith)) (r.none k low high))
+      let t = fold min x xs in (
+        r.low told.0,
+        elim r.here [
+          | inl same ↦ or_left (one t) (more t) (subst (λ k. one k ≡ true) (sym same) told.1)
+          | inr on ↦ or_right (one t) (more t) on
+        ],
+        λ k low high. or_from (one k) (more k) (told.2 k low (let h = r.high in omega arith)) (r.none k low high),
+      )
 
   first : (ss : List Stream) → FirstOf (λ k. some_turn n k ss) (reduce min (picks ss))
   first [] = λ k low. refl

@@ -1,4 +1,4 @@
-use Rattle.std.proofs.Common.{◌≡◌, ℕ, min, Bool, eqb, get_or, List, Some, None, Option, refl, sym, ap, ◌∙◌, rules}
+use Rattle.std.proofs.Common.{◌≡◌, min, ap, ◌∙◌, rules}
 use borrow.Author.Tests.{tests}
 use Rattle.std.specs.List.{filter, reduce, filter_map}
 use Rattle.std.specs.Iterator.Adapters.{filter_callee}
@@ -7,7 +7,6 @@ use Rattle.std.proofs.lemmas.Iterator.{YieldsList-from_slice}
 use Rattle.std.proofs.lemmas.Iterator.Adapters.{serves_from_places}
 use Rattle.std.proofs.lemmas.Iterator.Consumers.{YieldsList-from_filter, YieldsList-from_filter_map, min_from_yields_List}
 use Rattle.clock.specs.Timing.{Paced, FirstTurning}
-use Rattle.plan.specs.declared.streams.Stream.{Stream}
 use Rattle.plan.proofs.Turned.{own, next_of, next_is, own_paced, soonest}
 use Rattle.plan.proofs.streams.soonest_turn.Goals as goal
 
