@@ -1,7 +1,6 @@
 -- The streams of a plan's messages, and the traffic that they are. Assumes nothing.
-use Rattle.std.specs.Prelude.{◌≡◌, ℕ, ◌<◌, ◌≤◌, max, Bool, true, false, ◌&&◌, ◌||◌, List, [], ◌∷◌, length, Ok, Err, fold, Result, ◌==◌, slice_index_or}
+use Rattle.std.specs.Prelude.{◌≡◌, ℕ, ◌<◌, ◌≤◌, max, Bool, true, false, ◌&&◌, ◌||◌, List, [], ◌∷◌, length, Some, None, Option, fold, ◌==◌, slice_index_or}
 use Rattle.std.specs.List.{flat_map}
-use Rattle.bus.specs.declared.refusal.Refusal.{Refusal}
 use Rattle.bus.specs.Frame as frame
 use Rattle.bus.specs.Meaning.{Meaning}
 use Rattle.clock.specs.declared.timing.Timing.{Timing}
@@ -57,13 +56,7 @@ traffic_of rs = record {
   reach = reach_of rs;
 }
 
--- t is the first phase from p on, and before the end, at which a stream of node n turns, or else the end
-pub record Soonest (n p end : ℕ) (ss : List Stream) (t : ℕ) : Type 0 where
-  pub low : p ≤ t
-  pub high : t ≤ end
-  pub none : (k : ℕ) → p ≤ k → k < t → some_turn n k ss ≡ false
-  pub here : t < end → some_turn n t ss ≡ true
-
-abbrev pub SoonestFound : ℕ → ℕ → ℕ → List Stream → Result ℕ Refusal → Type 0
-SoonestFound n p end ss (Ok t) = Soonest n p end ss t
-SoonestFound n p end ss (Err e) = ⊥
+-- the first phase from p on, and before the end, at which a stream of node n turns, or that there is none
+abbrev pub SoonestFound : ℕ → ℕ → ℕ → List Stream → Option ℕ → Type 0
+SoonestFound n p end ss (Some t) = (p ≤ t) × (t < end) × (some_turn n t ss ≡ true) × ((k : ℕ) → p ≤ k → k < t → some_turn n k ss ≡ false)
+SoonestFound n p end ss None = (k : ℕ) → p ≤ k → k < end → some_turn n k ss ≡ false

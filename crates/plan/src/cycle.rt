@@ -10,7 +10,7 @@ use clock::multiple;
 
 pub(crate) const NODES: usize = 16;
 
-const LONGEST_CYCLE: u64 = 4194304;
+const LONGEST_CYCLE: u64 = 4_194_304;
 
 impl Message {
     // The cycle of a node with the period of one more message, unless it is too long.

@@ -11,11 +11,11 @@ const LARGEST_NODE: u64 = 15;
 
 const MOST_BYTES: u64 = 8;
 
-const LONGEST_INTERVAL: u64 = 1048576;
+const LONGEST_INTERVAL: u64 = 1_048_576;
 
-const LARGEST_JITTER: u64 = 1048576;
+const LARGEST_JITTER: u64 = 1_048_576;
 
-const LATEST_DUE: u64 = 4194304;
+const LATEST_DUE: u64 = 4_194_304;
 
 // A mixed message comes both by the clock and at events, the two independent of each other.
 #[derive(Clone, Copy, PartialEq, Eq, Debug)]

@@ -1,13 +1,12 @@
 // The streams of the messages, in their order: what is asked of a traffic again and again.
 ghost use Rattle.std.specs.Prelude.{◌≡◌, ◌+◌, ◌*◌, ◌≤◌, [], ◌∷◌, ◌++◌, length, vec_len, vec_capacity};
 ghost use Rattle.std.specs.List.{AllByRecursion};
-ghost use Rattle.clock.specs.Timing.{Paced};
+ghost use Rattle.clock.specs.Timing.{Paced, FirstTurning};
 ghost use Rattle.plan.specs.Messages.{records_of};
 ghost use Rattle.plan.specs.Streams.{stream_of, parts, streams_of, reach_of, SoonestFound};
 
 use crate::record::{Kind, Message};
 use bus::frame;
-use bus::refusal::Refusal;
 use clock::timing::Timing;
 
 // That its timing is paced stands in the contracts below: a fact of the type would ask it of every stream that a definition builds.
@@ -80,34 +79,25 @@ pub(crate) fn largest_jitter(messages: &[Message]) -> u32
 }
 
 impl Stream {
-    // The sooner of `end` and the first phase from `phase` on at which the stream turns, if it is one of the node.
-    fn sooner(self, node: u32, phase: u32, end: u32) -> Result<u32, Refusal>
-        requires paced { Paced self.timing }
-        requires before { phase ≤ end }
-        ensures { SoonestFound node phase end (self ∷ []) result }
+    // The first phase from `phase` on at which the stream turns, as if the cycle had no end.
+    fn next_turn(self, phase: u32) -> Option<u64>
+        requires { Paced self.timing }
+        ensures { FirstTurning self.timing self.jitter phase result }
     {
-        if self.node != node {
-            return Ok(end);
-        }
-        let turn = self.timing.next_turn(self.jitter, phase)?;
-        Ok(turn.map_or(end, |turn| turn.min(u64::from(end)) as u32))
+        self.timing.next_turn(self.jitter, phase).unwrap()
     }
 }
 
-// The first phase from `phase` on, and before `end`, at which a stream of the node turns, or else `end`.
-pub(crate) fn soonest_turn(
-    streams: &[Stream],
-    node: u32,
-    phase: u32,
-    end: u32,
-) -> Result<u32, Refusal>
-    requires paced { AllByRecursion (λ s. Paced s.timing) streams.now }
-    requires before { phase ≤ end }
+// The first phase from `phase` on, and before `end`, at which a stream of the node turns.
+pub(crate) fn soonest_turn(streams: &[Stream], node: u32, phase: u32, end: u32) -> Option<u32>
+    requires { AllByRecursion (λ s. Paced s.timing) streams.now }
     ensures { SoonestFound node phase end streams.now result }
 {
-    let mut soonest = end;
-    for stream in streams {
-        soonest = stream.sooner(node, phase, soonest)?;
-    }
-    Ok(soonest)
+    streams
+        .iter()
+        .filter(|stream| stream.node == node)
+        .filter_map(|stream| stream.next_turn(phase))
+        .min()
+        .filter(|turn| *turn < u64::from(end))
+        .map(|turn| turn as u32)
 }

@@ -32,9 +32,8 @@ impl OpenPlan {
         ensures step { Step (open_book (held self.old)) (Strike identifier) (Some result) (open_book (held self.new)) }
     {
         let at = self.position(identifier).ok_or(Refusal::NotHeld)?;
-        let held = self.len();
         let _ = self.messages.remove(at);
         self.schedule.work_out(&self.messages).unwrap();
-        Ok(held - 1)
+        Ok(self.len())
     }
 }

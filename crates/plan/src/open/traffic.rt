@@ -12,7 +12,8 @@ use crate::streams::{Stream, soonest_turn};
 use bus::refusal::Refusal;
 use bus::traffic::Traffic;
 
-const LONGEST_SPAN: u64 = 20971520;
+// The longest window, with the reach, that a count is asked for.
+const LAST_WINDOW: u64 = 20_971_520;
 
 impl OpenPlan {
     // The stream of a number.
@@ -80,7 +81,7 @@ impl Traffic for OpenPlan {
 
     fn count(&self, stream: u32, phase: u32, window: u32) -> Result<u32, Refusal> {
         let asked = self.stream_at(stream, phase)?;
-        if u64::from(window) + u64::from(self.schedule.reach) > LONGEST_SPAN {
+        if u64::from(window) + u64::from(self.schedule.reach) > LAST_WINDOW {
             return Err(Refusal::Question);
         }
         asked.timing.count(asked.jitter, phase, window)
@@ -95,7 +96,6 @@ impl Traffic for OpenPlan {
         if phase >= cycle {
             return Err(Refusal::Question);
         }
-        let turn = soonest_turn(&self.schedule.streams, node, phase, cycle)?;
-        Ok((turn < cycle).then_some(turn))
+        Ok(soonest_turn(&self.schedule.streams, node, phase, cycle))
     }
 }

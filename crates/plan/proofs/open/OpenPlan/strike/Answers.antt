@@ -1,4 +1,4 @@
-use Rattle.std.proofs.Common.{◌≡◌, ◌-◌, false, length, Ok, Err, sym, refl, ap, ◌∙◌, subst, arith}
+use Rattle.std.proofs.Common.{◌≡◌, false, length, Ok, Err, sym, refl, ap, ◌∙◌, subst, arith}
 use Rattle.std.specs.List.{remove}
 use Rattle.std.specs.Option.{ok_or}
 use Rattle.std.proofs.lemmas.List.Edits.{length-remove}
@@ -55,6 +55,5 @@ returns c =
     let at = stands h in
     let found = holds_told c.args.identifier rs c.position.result c.position.ensures ∙ sym c.in_ok-at.ensures.variant in
     let kept = records_of c.remove.new.self.items in
-    let fewer : c.len-held.result - 1 ≡ length kept = omega (arith, c.len-held.ensures, ap length (left h), length-remove rs c.in_ok-at.at at.inside) in
-    let done = done_made (strike_rules c.args.identifier rs) rs (struck c.args.identifier rs) (c.len-held.result - 1) kept (strike_accepted rs c.args.identifier _ found) fewer (left h ∙ struck_is c.args.identifier rs c.in_ok-at.at at) in
-    record { done = done; step = strike_steps rs kept (Ok (c.len-held.result - 1)) c.args.identifier done }
+    let done = done_made (strike_rules c.args.identifier rs) rs (struck c.args.identifier rs) c.len.result kept (strike_accepted rs c.args.identifier _ found) c.len.ensures (left h ∙ struck_is c.args.identifier rs c.in_ok-at.at at) in
+    record { done = done; step = strike_steps rs kept (Ok c.len.result) c.args.identifier done }

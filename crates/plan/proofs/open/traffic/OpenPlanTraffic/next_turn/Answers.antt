@@ -8,7 +8,7 @@ use Rattle.plan.specs.Carried.{Known, all_known}
 use Rattle.plan.specs.Plans.{sound}
 use Rattle.plan.proofs.open.traffic.OpenPlanTraffic.next_turn.Goals as goal
 
-pub soonest_turn-requires-clause-paced : goal.soonest_turn-requires-clause-paced
-soonest_turn-requires-clause-paced c =
+pub soonest_turn-requires : goal.soonest_turn-requires
+soonest_turn-requires c =
     let p = c.args.self.now in
     subst (AllByRecursion (λ s. Paced s.timing)) (sym (c.deref.ensures.value ∙ p.works.carried)) (All-weaker (Known (held p)) (λ s. Paced s.timing) (λ s k. k.paced) (streams_of (held p)) (all_known (held p) (sound p)))
