@@ -7,7 +7,7 @@ import random
 import sys
 from pathlib import Path
 
-from literal import Delayed, Plan, Sender, Sheet, bound
+from literal import Delayed, Plan, Sender, Sheet, bound, even
 from table import message_of
 
 NODES = 16
@@ -96,6 +96,19 @@ def answers(folder):
         else:
             below = sheet_of((folder / f"{name}.senders").read_text())
         yield from pile(below, lines)
+    yield from tower()
+
+
+def tower():
+    """Sixteen of the longest delays on a sender with the longest jitter: the last is one too many."""
+    yield "tower"
+    pile = Sheet([Sender(0, 1, 0, LONGEST_DELAY, even(1_000))])
+    for _ in range(16):
+        if pile.reach() + LONGEST_DELAY > LARGEST_REACH:
+            yield f"refused 35, reach {pile.reach()}"
+        else:
+            pile = Delayed(pile, dict.fromkeys(range(NODES), LONGEST_DELAY))
+            yield f"set, reach {pile.reach()}"
 
 
 def table(chance):

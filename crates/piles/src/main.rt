@@ -12,6 +12,8 @@ use table::table::read_table;
 
 const NODES: usize = 16;
 
+const LONGEST_DELAY: u32 = 1_048_576;
+
 const PHASES: [u32; 5] = [0, 1, 99, 250, 1_199];
 
 const WINDOWS: [u32; 3] = [0, 500, 4_000];
@@ -109,6 +111,42 @@ fn sender(line: &str) -> Option<Sender> {
     })
 }
 
+// The traffic with the longest delay at every node.
+fn longest<T: Traffic + Drop>(rt: &impl Print, below: T) -> io::Result<Delayed<T>> {
+    let mut pile = Delayed::new(below);
+    match pile.set([LONGEST_DELAY; NODES]) {
+        Ok(()) => println!(rt; "set, reach {}", pile.reach())?,
+        Err(refusal) => println!(rt; "refused {refusal}, reach {}", pile.reach())?,
+    }
+    Ok(pile)
+}
+
+// And four of them, one on another.
+fn four<T: Traffic + Drop>(
+    rt: &impl Print,
+    below: T,
+) -> io::Result<Delayed<Delayed<Delayed<Delayed<T>>>>> {
+    longest(rt, longest(rt, longest(rt, longest(rt, below)?)?)?)
+}
+
+// The reach grows as far as it may, and no further.
+fn tower(rt: &impl Print, mut sheet: Sheet) -> io::Result<()> {
+    println!(rt; "tower")?;
+    let jittery = Sender {
+        node: 0,
+        identifier: 1,
+        bytes: 0,
+        jitter: LONGEST_DELAY,
+        spans: [1_000, 2_000, 3_000, 4_000, 5_000, 6_000, 7_000],
+    };
+    if let Err(refusal) = sheet.note(jittery) {
+        println!(rt; "refused {refusal}")?;
+    }
+    let pile = four(rt, four(rt, four(rt, four(rt, sheet)?)?)?)?;
+    drop(pile);
+    Ok(())
+}
+
 fn main(rt: HostRuntime) -> io::Result<()> {
     let index = fs::read_to_string(&rt, "index")?;
     for name in index.lines() {
@@ -135,5 +173,5 @@ fn main(rt: HostRuntime) -> io::Result<()> {
             pile(&rt, sheet, delays.as_str())?;
         }
     }
-    Ok(())
+    tower(&rt, Sheet::new(rt.alloc())?)
 }
