@@ -4,9 +4,9 @@ ghost use Rattle.clock.specs.Timing.{Paced, lead, late, FirstPlaces, PlaceTold, 
 
 use bus::refusal::Refusal;
 
-const MOST_INSTANCES: u32 = 4194306;
+const MOST_INSTANCES: u32 = 4_194_306;
 
-const LONGEST_SPAN: u64 = 20971520;
+const LONGEST_SPAN: u64 = 20_971_520;
 
 // The jitter is no part of it: it is the message's, and a mixed message has two timings.
 #[derive(Clone, Copy, PartialEq, Eq, Debug)]
@@ -55,7 +55,7 @@ impl Timing {
         ensures asked { PlaceTold self jitter phase instance result }
         ensures first { FirstPlaces }
     {
-        if !self.is_paced() || instance < 1 || instance > MOST_INSTANCES {
+        if !self.is_paced() || !(1..=MOST_INSTANCES).contains(&instance) {
             return Err(Refusal::Question);
         }
         // It is far below the end of an i64; TryFrom would want a refusal that never comes.

@@ -1,6 +1,7 @@
 -- The first turning phase of a delayed traffic, from those of the traffic below. Assumes nothing.
-use Rattle.std.proofs.Common.{◌≡◌, ℕ, ◌+◌, ◌-◌, ◌%◌, ◌<◌, ◌≤◌, false, pos, ◌-ℤ◌, Some, None, Ok, Err, Option, sym, ap, ◌∙◌, subst, ⊎_elim, mod-lt, arith}
-use Rattle.std.proofs.lemmas.Bool.{cases_lt}
+use Rattle.std.proofs.Common.{◌≡◌, ℕ, ◌+◌, ◌-◌, ◌%◌, ◌<◌, ◌≤◌, Bool, true, false, cond, nat_lt, pos, ◌-ℤ◌, Some, None, Ok, Err, Option, MatchOption, IsSomeAnd, inl, inr, refl, sym, ap, ◌∙◌, subst, ⊎_elim, mod-lt, arith}
+use Rattle.std.specs.Bool.{then_some}
+use Rattle.std.proofs.lemmas.Bool.{cases_lt, cond-true, cond-false}
 use Rattle.bus.specs.declared.refusal.Refusal.{Refusal}
 use Rattle.bus.specs.Asked.{CycleAsked, NextTurnAsked, FirstTurn}
 use Rattle.bus.specs.Meaning.{Meaning}
@@ -8,6 +9,25 @@ use Rattle.bus.specs.Run.{reduced}
 use Rattle.delay.specs.Delayed.{delayed, earlier}
 use Rattle.delay.specs.Reducing.{reduced_down, reduced_up}
 use Rattle.delay.proofs.Asking.{cycle_in}
+
+-- what is left of the cycle, the delay later
+abbrev pub later : ℕ → ℕ → Option ℕ → Option ℕ
+later left delay (Some t) = cond (nat_lt t left) (Some (t + delay)) None
+later left delay None = None
+
+-- a turning phase that passes the test of being left, with the delay added
+module _ (left delay : ℕ) (P : ℕ → Bool → Type 0) (tests : (t : ℕ) (b : Bool) → P t b → b ≡ nat_lt t left) (Q : ℕ → ℕ → Type 0) (adds : (t r : ℕ) → Q t r → r ≡ t + delay) where
+  added : (t : ℕ) (r : Option ℕ) → IsSomeAnd r (Q t) → r ≡ Some (t + delay)
+  added t (Some y) so = ap Some (adds t y so)
+  added t None so = absurd so
+
+  passed_on : (t : ℕ) (b : Bool) (kept r : Option ℕ) → kept ≡ then_some b t → MatchOption kept (r ≡ None) (λ x. IsSomeAnd r (Q x)) → r ≡ cond b (Some (t + delay)) None
+  passed_on t true kept r is made = added t r (subst (λ (o : Option ℕ). MatchOption o (r ≡ None) (λ x. IsSomeAnd r (Q x))) is made)
+  passed_on t false kept r is made = subst (λ (o : Option ℕ). MatchOption o (r ≡ None) (λ x. IsSomeAnd r (Q x))) is made
+
+  pub later_told : (o kept r : Option ℕ) → MatchOption o (kept ≡ None) (λ x. (b : Bool) × P x b × (kept ≡ then_some b x)) → MatchOption kept (r ≡ None) (λ x. IsSomeAnd r (Q x)) → r ≡ later left delay o
+  later_told (Some t) kept r is made = passed_on t is.0 kept r is.2 made ∙ ap (λ b. cond b (Some (t + delay)) None) (tests t is.0 is.1)
+  later_told None kept r is made = subst (λ (o : Option ℕ). MatchOption o (r ≡ None) (λ x. IsSomeAnd r (Q x))) is made
 
 module _ (m : Meaning) (delay : ℕ → ℕ) (n p : ℕ) where
   abbrev e : ℕ
@@ -105,3 +125,11 @@ module _ (m : Meaning) (delay : ℕ → ℕ) (n p : ℕ) where
           let same = s.cycle_is in
           let first = told q o None (omega (arith, s.inside)) is a in
           turn_answer None (λ k l h. quiet_until c (omega arith) (λ j l h. first j l (omega arith)) k l (omega arith))
+
+    module _ (quiet : Quiet) (q : ℕ) (from : q ≡ p - e % c) where
+      pub late : (o : Option ℕ) → NextTurnAsked m n q (Ok o) → NextTurnAsked (delayed m delay) n p (Ok (later (c - e % c) (e % c) o))
+      late None a = late_none quiet q from None a refl
+      late (Some t) a = elim (cases_lt t (c - e % c)) [
+        | inl fits ↦ subst (λ r. NextTurnAsked (delayed m delay) n p (Ok r)) (sym (cond-true (nat_lt t (c - e % c)) (Some (t + e % c)) None (grind arith))) (late_turn quiet q from (Some t) a t refl fits)
+        | inr past ↦ subst (λ r. NextTurnAsked (delayed m delay) n p (Ok r)) (sym (cond-false (nat_lt t (c - e % c)) (Some (t + e % c)) None (grind arith))) (late_past quiet q from (Some t) a t refl past)
+      ]

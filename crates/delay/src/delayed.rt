@@ -188,9 +188,10 @@ impl<T: Traffic> Traffic for Delayed<T> {
                 return Ok(Some(turn + delay - cycle));
             }
         }
-        match self.below.next_turn(node, phase.saturating_sub(delay))? {
-            Some(turn) if turn < cycle - delay => Ok(Some(turn + delay)),
-            _ => Ok(None),
-        }
+        let turn = self.below.next_turn(node, phase.saturating_sub(delay))?;
+        Ok(
+            turn.filter(|turn| *turn < cycle - delay)
+                .map(|turn| turn + delay),
+        )
     }
 }

@@ -24,10 +24,6 @@ impl Window {
     pub(crate) fn up_to_horizon(bits: u64) -> Option<Self>
         ensures { MatchOption result (horizon < bits) (λ w. w.bits ≡ bits) }
     {
-        if bits > u64::from(HORIZON) {
-            None
-        } else {
-            Some(Window::new(bits as u32))
-        }
+        (bits <= u64::from(HORIZON)).then(|| Window::new(bits as u32))
     }
 }
