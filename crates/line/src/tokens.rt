@@ -16,7 +16,7 @@ pub(crate) enum Token<'a> {
     Number(&'a [u8]),
 }
 
-// By a rule of the project a token is handed out with its place, though the reader has it too.
+// A token carries its place, so that a fault is told where the token begins; the reader has the place too.
 #[derive(Clone, Copy, PartialEq, Eq, Debug)]
 pub(crate) struct Placed<'a> {
     pub(crate) token: Token<'a>,
