@@ -111,7 +111,7 @@ module _ (a b : ℕ) (pa : 1 ≤ a) (pb : 1 ≤ b) where
   lcm_pair = record { common = ((lcm_steps a b, refl), (steps_pass, tt)); least = λ m d. lcm_divides m d.0 d.1.0 }
 
   -- no other is the least
-  lcm_is : (m : ℕ) → LeastCommon (a ∷ b ∷ []) m → m ≡ lcm a b
+  pub lcm_is : (m : ℕ) → LeastCommon (a ∷ b ∷ []) m → m ≡ lcm a b
   lcm_is m h = divides_same m (lcm a b) (h.least (lcm a b) lcm_pair.common) (lcm_pair.least m h.common)
 
   -- by the greatest common divisor

@@ -1,10 +1,8 @@
 -- The records stay sound, and their schedule in step, as a message is entered, altered or struck. Assumes nothing.
-use Rattle.std.proofs.Common.{◌≡◌, ℕ, zero, suc, ◌<◌, max, true, false, not, ◌&&◌, ◌||◌, ◌==◌, ◌≢◌, eqb, List, [], ◌∷◌, ◌++◌, length, set, Ok, Err, Result, sym, refl, ap, ◌∙◌, le_trans, subst, inl, inr, arith}
+use Rattle.std.proofs.Common.{◌≡◌, ℕ, zero, suc, ◌<◌, max, true, false, not, ◌&&◌, ◌||◌, eqb, List, [], ◌∷◌, ◌++◌, length, set, Ok, Err, Result, sym, refl, ap, ◌∙◌, le_trans, arith}
 use Rattle.std.specs.List.{remove, slice_index, slice_set}
-use Rattle.std.proofs.lemmas.List.{set_split, get_or-set_same, get_or-set_other, flat_map_more}
-use Rattle.std.proofs.lemmas.List.Recursion.{or_push}
-use Rattle.std.proofs.lemmas.List.Sums.{fold_push}
-use Rattle.std.proofs.lemmas.Bool.{and_parts, and_from, or_from, or_parts, not-true, not_from_false, both_ways, eqb-false, ne_eqb, cases_eq}
+use Rattle.std.proofs.lemmas.List.{set_split}
+use Rattle.std.proofs.lemmas.Bool.{and_parts, and_from, or_from, or_parts, not-true, not_from_false, both_ways}
 use Rattle.bus.specs.declared.refusal.Refusal.{Refusal}
 use Rattle.plan.specs.declared.record.Record.{Record}
 use Rattle.plan.specs.declared.schedule.Schedule.{Schedule}
@@ -13,7 +11,7 @@ use Rattle.plan.specs.Held.{record_at, Stands}
 use Rattle.plan.specs.Open.{holds, apart, too_long, altered, struck}
 use Rattle.plan.specs.Schedule.{Works, WorksOut}
 use Rattle.plan.specs.Streams.{parts}
-use Rattle.plan.specs.Kept.{Sound, cycle_elsewhere, short_at, short_nowhere}
+use Rattle.plan.specs.Kept.{Sound, short_at, short_nowhere, streams_push, cycles_push, reach_push}
 use Rattle.plan.proofs.Places.{giving_way_at}
 use Rattle.plan.proofs.Walked.{cycle_without}
 
@@ -26,28 +24,13 @@ module _ (rs : List Record) (old new : Schedule) where
 
 -- ---- one message more
 
-holds_push : (identifier : ℕ) (rs : List Record) (r : Record) → holds identifier rs ≡ false → (r.identifier ≢ identifier) → holds identifier (rs ++ r ∷ []) ≡ false
-holds_push identifier rs r none other = or_push (holds identifier) (λ x. x.identifier == identifier) refl (λ _ _. refl) rs r ∙ or_from _ _ none (ne_eqb r.identifier identifier other)
-
-pub apart_push : (rs : List Record) (r : Record) → apart rs ≡ true → holds r.identifier rs ≡ false → apart (rs ++ r ∷ []) ≡ true
-apart_push [] r h free = refl
-apart_push (x ∷ rs) r h free =
-    let both = and_parts (not (holds x.identifier rs)) (apart rs) h in
-    let new = or_parts (x.identifier == r.identifier) (holds r.identifier rs) free in
-    and_from (not (holds x.identifier (rs ++ r ∷ []))) (apart (rs ++ r ∷ []))
-    (not_from_false _ (holds_push x.identifier rs r (not-true _ both.0) (λ e. eqb-false x.identifier r.identifier new.0 (sym e))))
-    (apart_push rs r both.1 new.1)
-
 -- what is added to a schedule
 pub entered_works : (rs : List Record) (r : Record) (old new : Schedule) (cycle : ℕ) → Works rs old → length old.cycles ≡ 16 → cycle ≡ cycle_of r.node (rs ++ r ∷ []) → new.streams.items ≡ old.streams.items ++ parts r r.kind → new.cycles ≡ slice_set old.cycles r.node cycle → new.reach ≡ max old.reach r.jitter
     → Works (rs ++ r ∷ []) new
 entered_works rs r old new cycle before all is streams cycles reach = record {
-  carried = streams ∙ ap (λ x. x ++ parts r r.kind) before.carried ∙ flat_map_more (λ x. parts x x.kind) [] rs r;
-  cycled = λ n h. ap (λ cs. slice_index cs n) cycles ∙ elim (cases_eq r.node n) [
-    | inl same ↦ subst (λ k. slice_index (slice_set old.cycles r.node cycle) k ≡ cycle_of k (rs ++ r ∷ [])) same (get_or-set_same old.cycles r.node cycle 0 (omega arith) ∙ is)
-    | inr other ↦ get_or-set_other old.cycles r.node n cycle 0 (λ e. other (sym e)) ∙ before.cycled n h ∙ sym (cycle_elsewhere rs r n other)
-  ];
-  reached = reach ∙ ap (λ x. max x r.jitter) before.reached ∙ sym (fold_push (λ m x. max m x.jitter) 0 rs r);
+  carried = streams ∙ ap (λ x. x ++ parts r r.kind) before.carried ∙ streams_push rs r;
+  cycled = λ n h. ap (λ cs. slice_index cs n) (cycles ∙ ap (slice_set old.cycles r.node) is) ∙ cycles_push rs r old.cycles before.cycled all n h;
+  reached = reach ∙ ap (λ x. max x r.jitter) before.reached ∙ reach_push rs r;
 }
 
 -- ---- another record in a place

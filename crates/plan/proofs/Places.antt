@@ -38,7 +38,7 @@ module _ (identifier : ℕ) (ms : List Message) where
     first = all_other k (omega (arith, found.0)) found.2;
   }
 
-held_at : (identifier : ℕ) (rs : List Record) (k : ℕ) → k < length rs → (record_at rs k).identifier ≡ identifier → holds identifier rs ≡ true
+pub held_at : (identifier : ℕ) (rs : List Record) (k : ℕ) → k < length rs → (record_at rs k).identifier ≡ identifier → holds identifier rs ≡ true
 held_at identifier rs k inside named = or_at (holds identifier) (λ r. eqb r.identifier identifier) refl (λ _ _. refl) rs k no_record inside (eq-eqb _ _ named)
 
 pub holds_told : (identifier : ℕ) (rs : List Record) (told : Option ℕ) → PositionAsked identifier rs told → holds identifier rs ≡ is_some told

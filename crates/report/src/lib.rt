@@ -8,7 +8,6 @@ ghost use Rattle.settled.specs.Holding.{holding, VerdictsHold};
 use settled::settled::SettledPlan;
 use settled::settled::calls::Row;
 use std::alloc::{AllocError, Global};
-use std::fmt::Write;
 use verdict::Verdict;
 
 // No identifier is as high.
@@ -38,11 +37,7 @@ pub fn report(heap: Global, plan: &SettledPlan) -> Result<String, AllocError>
     // The range gives the order; sorted rows would be a copy first.
     for identifier in 0..IDENTIFIERS {
         if let Ok(verdict) = plan.verdict(identifier) {
-            let row = Row {
-                identifier,
-                verdict,
-            };
-            writeln!(text, "{row}")?;
+            text.push_str(&row_text(heap, identifier, verdict)?)?;
         }
     }
     Ok(text)

@@ -9,7 +9,7 @@ use Rattle.settled.proofs.Delivering.{verdicts_hold}
 use Rattle.report.specs.Report.{row_text, ReportsBelow}
 use Rattle.report.proofs.Lining.{reports_past, reports_more}
 use Rattle.report.proofs.report.Goals as goal
-use Rattle.report.proofs.report.Goals.{in-Ok+in_ok-writeln, in_default}
+use Rattle.report.proofs.report.Goals.{in-Ok+in_ok-row_text+in_ok-push_str, in_default}
 
 pub loop-identifier-preserved : goal.loop-identifier-preserved
 loop-identifier-preserved c =
@@ -17,8 +17,9 @@ loop-identifier-preserved c =
     let n = c.loop-identifier.identifier in
     let before = string_bytes c.loop-identifier.text in
     elim c.match-verdict.branch [
-      | in-Ok+in_ok-writeln w ↦
-          let grown : string_bytes c.match-verdict.text ≡ before ++ row_text n w.in-Ok.verdict = ap string_bytes w.text-is ∙ w.in_ok-writeln.ensures.bytes in
+      | in-Ok+in_ok-row_text+in_ok-push_str w ↦
+          let line = w.in_ok-row_text.ensures in
+          let grown : string_bytes c.match-verdict.text ≡ before ++ row_text n w.in-Ok.verdict = ap string_bytes w.text-is ∙ w.in_ok-push_str.ensures.bytes ∙ ap (λ bytes. before ++ bytes) (w.deref.ensures ∙ line) in
           subst (ReportsBelow (n + 1) records) (sym grown) (reports_more records n w.in-Ok.verdict before w.in-Ok.ensures.asked c.loop-identifier.invariant)
       | in_default w ↦
           subst (ReportsBelow (n + 1) records) (sym (ap string_bytes w.text-is)) (reports_past records n before w.in_default.ensures.asked.1 c.loop-identifier.invariant)

@@ -1,5 +1,5 @@
 use Rattle.std.proofs.Common.{◌≡◌, [], ◌∷◌, ◌++◌, length, is_ok, Ok, Err, sym, refl, ap, ◌∙◌, subst, arith, rules}
-use Rattle.std.proofs.lemmas.List.{length-map, length_push, map_push}
+use Rattle.std.proofs.lemmas.List.{length-map, map_push}
 use Rattle.std.proofs.lemmas.Result.{err_from_is_err_and}
 use Rattle.bus.specs.Refused.{answer}
 use Rattle.bus.proofs.Refusing.{answer_passed, answer_refused}
@@ -10,8 +10,9 @@ use Rattle.plan.specs.Held.{held}
 use Rattle.plan.specs.Messages.{records_of}
 use Rattle.plan.specs.Open.{apart, too_long, enter_rules}
 use Rattle.plan.specs.Schedule.{Works}
-use Rattle.plan.specs.Kept.{streams_few, least_cycles}
-use Rattle.plan.proofs.Changed.{apart_push, entered_works}
+use Rattle.plan.specs.Kept.{streams_few, least_cycles, entered_kept}
+use Rattle.plan.specs.Plans.{kept}
+use Rattle.plan.proofs.Changed.{entered_works}
 use Rattle.plan.proofs.Judged.{Accepted, accepted_by, refused_limits, done_refused, done_made}
 use Rattle.plan.proofs.Stepping.{told, enter_steps}
 use Rattle.plan.proofs.open.OpenPlan.enter.Goals as goal
@@ -63,10 +64,11 @@ invariant_of-self c =
     let is = told (enter_rules r rs) c.in_ok-cycle.cycle v c.in_ok-cycle.ensures in
     let all : length p.schedule.cycles ≡ 16 = search rules in
     let new = ap records_of c.push_reserved.ensures.items ∙ map_push (λ (m : Message). m.record) p.messages.items c.in_ok-checked.checked in
+    let after = entered_kept rs p.schedule.streams.items p.schedule.cycles p.schedule.reach r (kept p) a.good a.free a.room a.short all in
     record {
-      few = omega (arith, ap length new, length_push rs r, a.room);
-      distinct = ap apart new ∙ apart_push rs r p.distinct a.free;
-      short = ap too_long new ∙ a.short;
+      few = omega (arith, ap length new, after.sound.few);
+      distinct = ap apart new ∙ after.sound.distinct;
+      short = ap too_long new ∙ after.sound.short;
       room = omega (arith, c.push_reserved.ensures.capacity, p.room);
       works = subst (λ xs. Works xs c.add.new.self) (sym new) (entered_works rs r p.schedule c.add.new.self c.in_ok-cycle.cycle p.works all is c.add.ensures.streams c.add.ensures.cycles c.add.ensures.reach);
     }
