@@ -1,5 +1,5 @@
 -- A traffic whose nodes queue up to a delay later than those of another. Assumes nothing.
-use Rattle.std.specs.Prelude.{◌≡◌, ℕ, ◌+◌, ◌<◌, List, [], ◌∷◌, length, ℤ, pos, ◌+ℤ◌, ◌-ℤ◌, ◌≤ℤ◌, ◌<ℤ◌, Result, nat_lt, slice_index}
+use Rattle.std.specs.Prelude.{◌≡◌, ℕ, ◌+◌, ◌<◌, cond, List, [], ◌∷◌, length, ℤ, pos, ◌+ℤ◌, ◌-ℤ◌, ◌≤ℤ◌, ◌<ℤ◌, Result, nat_le, nat_lt, slice_index}
 use Rattle.bus.specs.declared.refusal.Refusal.{Refusal}
 use Rattle.bus.specs.declared.refusal.Refusal.TheVariants.{Delay, Reach}
 use Rattle.bus.specs.Asked.{Asked}
@@ -34,6 +34,14 @@ listed delays n = slice_index delays n
 -- the largest of the 16
 abbrev pub largest_of : List ℕ → ℕ
 largest_of delays = largest_below 16 (listed delays)
+
+-- the delays that count above m: those listed, or none where the reach would be too large, which no delayed traffic has
+abbrev pub counting : Meaning → List ℕ → ℕ → ℕ
+counting m delays = cond (nat_le (m.reach + largest_of delays) 16777216) (listed delays) (λ _. 0)
+
+-- the traffic that stands on m with the delays listed
+abbrev pub standing : Meaning → List ℕ → Meaning
+standing m delays = delayed m (counting m delays)
 
 -- where node n's phase p stands below, and how much later the node queues
 abbrev pub shifted : Meaning → (ℕ → ℕ) → ℕ → ℕ → Shift

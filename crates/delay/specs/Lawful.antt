@@ -1,13 +1,14 @@
 -- A delayed traffic is a traffic. Assumes nothing.
-use Rattle.std.specs.Prelude.{◌≡◌, ℕ, ◌+◌, ◌-◌, ◌<◌, ◌≤◌, Bool, ℤ, pos, ◌-ℤ◌, ◌≤ℤ◌, int_le}
-use Rattle.std.proofs.Common.{sym, ap, subst, ◌∙◌, arith}
+use Rattle.std.specs.Prelude.{◌≡◌, ℕ, ◌+◌, ◌-◌, ◌<◌, ◌≤◌, Bool, cond, List, ℤ, pos, ◌-ℤ◌, ◌≤ℤ◌, int_le, nat_le}
+use Rattle.std.proofs.Common.{sym, ap, subst, ◌∙◌, ⊎_elim, arith}
 use Rattle.std.proofs.lemmas.Int.{ints, by_lt_z}
+use Rattle.std.proofs.lemmas.Bool.{leb-true, le-leb, cond-true, cases_Bool}
 use Rattle.bus.specs.Sums.{sum_below, largest_below, only}
 use Rattle.bus.specs.Meaning.{Meaning, Limits, Laws, count}
 use Rattle.bus.proofs.Adding.{sum_same, sum_rest, largest_has}
 use Rattle.bus.proofs.Growing.{above, upto, far}
 use Rattle.bus.proofs.Phases.{reduced_below}
-use Rattle.delay.specs.Delayed.{delayed, earlier}
+use Rattle.delay.specs.Delayed.{delayed, earlier, counting, listed, largest_of}
 use Rattle.delay.specs.Reducing.{reduced_next}
 
 -- what is taken from a place may be added to the window
@@ -72,3 +73,15 @@ module _ (m : Meaning) (limits : Limits m) (delay : ℕ → ℕ) where
         ∙ sum_rest (w + e + m.reach + 1) (largest_below 16 delay - e) one (λ k h.
         let from = far m laws i here known inside (k + 1) (omega arith) in
         ap (λ (t : Bool). only t 1) (above (m.place i here (k + 1)) (pos (w + e)) (omega (arith, ints))))
+
+-- the delays that count are those listed, where the reach is not too large
+pub counting_listed : (m : Meaning) (delays : List ℕ) → m.reach + largest_of delays ≤ 16777216 → counting m delays ≡ listed delays
+counting_listed m delays fits = cond-true (nat_le (m.reach + largest_of delays) 16777216) (listed delays) (λ _. 0) (le-leb (m.reach + largest_of delays) 16777216 fits)
+
+-- the delays that count leave the reach within its limit
+pub counting_fits : (m : Meaning) → Limits m → (delays : List ℕ) → m.reach + largest_below 16 (counting m delays) ≤ 16777216
+counting_fits m limits delays =
+    ⊎_elim
+    (λ yes. subst (λ (b : Bool). m.reach + largest_below 16 (cond b (listed delays) (λ _. 0)) ≤ 16777216) (sym yes) (leb-true (m.reach + largest_of delays) 16777216 yes))
+    (λ no. subst (λ (b : Bool). m.reach + largest_below 16 (cond b (listed delays) (λ _. 0)) ≤ 16777216) (sym no) (omega (arith, limits.reach_fits)))
+    (cases_Bool (nat_le (m.reach + largest_of delays) 16777216))
